@@ -1,0 +1,12 @@
+pub mod Tests
+pub mod Problem
+pub mod Format
+pub mod Read
+pub mod QValue
+pub mod Questions
+pub mod Ldfs
+pub mod Optimal
+pub mod Policy
+pub mod Report
+pub mod Calls
+pub mod Rows

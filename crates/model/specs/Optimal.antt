@@ -1,0 +1,35 @@
+-- The least cost of a stage: V*, the solution of document 000's Bellman equation, uncut. And gaps.
+use Prim.Native.Nat.{ℕ, zero, suc, _+_, _-_}
+use mathlib.Core.List.{List}
+use Rattle.model.specs.Problem.{Kind, Node, terminal, decision, Problem, Cell, states, nodeAt, valueOf}
+use Rattle.model.specs.QValue.{qFull, least, cut}
+
+-- f with f s ≡ step s f, where step s looks at states above s only; the number bounds how deep it looks
+unfoldable pub solution : (ℕ → (ℕ → ℕ) → ℕ) → ℕ → ℕ → ℕ
+solution step zero s = step s (λ t. 0)
+solution step (suc n) s = step s (solution step n)
+
+-- the right side of the Bellman equation: at an ending its cost, at a junction the least, over its checks, of the check's cost plus the
+-- largest, or the sum, of v at its findings
+unfoldable pub bellmanAt : Kind → (ℕ → ℕ) → Node → ℕ
+bellmanAt k v (terminal cost) = cost
+bellmanAt k v (decision acts) = least (qFull k v) acts
+
+abbrev pub bellman : Problem → ℕ → (ℕ → ℕ) → ℕ
+bellman p s v = bellmanAt (p .kind) v (nodeAt p s)
+
+-- V*, the least cost
+unfoldable pub optimal : Problem → ℕ → ℕ
+optimal p = solution (bellman p) (states p)
+
+-- a stage's gap: its least cost, cut to the ceiling, less its value
+abbrev pub gap : Problem → List Cell → ℕ → ℕ
+gap p cells s = cut (optimal p s) - valueOf cells s
+
+unfoldable pub sumBelow : ℕ → (ℕ → ℕ) → ℕ
+sumBelow zero f = 0
+sumBelow (suc n) f = sumBelow n f + f n
+
+-- the gaps of all stages
+abbrev pub gaps : Problem → List Cell → ℕ
+gaps p cells = sumBelow (states p) (gap p cells)
