@@ -1,6 +1,6 @@
 -- Reading bytes as a problem and its cells: the head, then each stage's field in turn. The first field out of place ends the reading.
 -- `..Good` says whether fields are in place, `..Read` what they say; what is read where a field is out of place is never looked at.
-use Prim.Native.Nat.{ℕ, zero, suc, _+_, _*_, _-_, _/_, _%_}
+use Prim.Native.Nat.{ℕ, zero, suc, _+_, _-_, _/_, _%_}
 use mathlib.Core.Bool.{Bool, true, false}
 use mathlib.Core.List.{List, [], _∷_}
 use lib.ListN.{length, getD, drop}

@@ -2,7 +2,6 @@
 -- use: Rattle.model.specs.Report.{computing}
 -- One call on a sheet: bytes, table and budget in; the answer, the bytes and the table after. Refusals included.
 use Prim.Native.Nat.{ℕ, zero, suc, _-_}
-use mathlib.Core.Bool.{Bool, true, false}
 use mathlib.Core.List.{List, [], _∷_, _++_}
 use lib.Dec.{ltb}
 use lib.ListN.{length, replicate}
@@ -32,8 +31,12 @@ numbers a = number (a .outcome) ∷ a .price ∷ a .passes ∷ a .raises ∷ []
 unfoldable pub outcomeOf : Cell → Outcome
 outcomeOf c = fork (solved c) (λ _. fork (ltb (c .value) ceiling) (λ _. Settled) (λ _. Over)) (λ _. Stopped)
 
+-- the cells that work leaves, and the raises that it made
 abbrev pub cellsAfter : Passes → List Cell
 cellsAfter r = searchOf (r .ended) .cells
+
+abbrev pub raisesOf : Passes → ℕ
+raisesOf r = searchOf (r .ended) .raises
 
 -- the answer to a call that is refused, and to one that has worked
 abbrev pub refused : ℕ → Answer
@@ -45,7 +48,7 @@ finished p r =
       outcome = outcomeOf (cellOf (cellsAfter r) (p .start));
       price = cellOf (cellsAfter r) (p .start) .value;
       passes = r .begun;
-      raises = searchOf (r .ended) .raises;
+      raises = raisesOf r;
     }
 
 -- what follows where nothing is refused, and where a question is answered no, by its number

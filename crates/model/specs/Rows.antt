@@ -1,13 +1,13 @@
 -- The worked rows of document 01, in one table, and one proof across it that the definitions give what is expected.
 use Prim.Native.Nat.{ℕ, zero, suc, _+_, _*_, _-_, _^_, _<_, min}
-use mathlib.Core.Path.{_≡_, refl, ap}
+use mathlib.Core.Path.{_≡_, refl}
 use mathlib.Core.Bool.{Bool, true, false}
 use mathlib.Core.List.{List, [], _∷_, _++_}
 use native.Mathlib.Omega.{arith}
 use borrow.Author.Tests.{eqb-true}
 use lib.Dec.{eqb}
-use lib.ListN.{length, getD, set, take, drop, replicate}
-use Rattle.model.specs.Tests.{also, all}
+use lib.ListN.{length, getD, set, take, replicate}
+use Rattle.model.specs.Tests.{also, never, also-true}
 use Rattle.model.specs.Problem.{worst, whole, action, Node, terminal, decision, problem, Cell, cell}
 use Rattle.model.specs.Format.{bytes2, successorsBytes, write}
 use Rattle.model.specs.Questions.{refusal}
@@ -180,16 +180,11 @@ unfolding computing rows allPass passes same
 rows-pass = refl
 
 -- The test that passes is the row that holds.
-also-true : (t : Bool) (more : Unit {0} → Bool) → also t more ≡ true → (t ≡ true) × (more tt ≡ true)
-unfolding also
-also-true true more h = (refl, h)
-also-true false more h = let z : _≡_ {A = ℕ} 0 1 = cc in absurd (omega arith)
-
 same-is : (xs ys : List ℕ) → same xs ys ≡ true → xs ≡ ys
 unfolding same
 same-is [] [] h = refl
-same-is [] (y ∷ ys) h = let z : _≡_ {A = ℕ} 0 1 = cc in absurd (omega arith)
-same-is (x ∷ xs) [] h = let z : _≡_ {A = ℕ} 0 1 = cc in absurd (omega arith)
+same-is [] (y ∷ ys) h = never h
+same-is (x ∷ xs) [] h = never h
 same-is (x ∷ xs) (y ∷ ys) h = let g = also-true _ _ h in let e : x ≡ y = eqb-true _ _ (g .0) in let r : xs ≡ ys = same-is xs ys (g .1) in cc
 
 passes-says : (s : List ℕ) (entries budget : ℕ) (e : Expected) → passes s entries budget e ≡ true → Says s entries budget e

@@ -1,16 +1,14 @@
 -- Small facts of the procedure that a reader would ask for.
-use Prim.Native.Nat.{ℕ, zero, suc, _<_, _≤_}
-use mathlib.Core.Path.{_≡_, refl, ap, sym}
-use mathlib.Core.Bool.{Bool, true, false}
+use Prim.Native.Nat.{ℕ, suc, _<_, _≤_}
+use mathlib.Core.Path.{_≡_, refl, ap}
+use mathlib.Core.Bool.{true, false}
 use mathlib.Core.List.{List, [], _∷_}
 use native.Mathlib.Omega.{arith}
 use borrow.Author.Tests.{lt-ltb, le-ltb}
-use lib.Dec.{ltb}
-use lib.ListN.{length, getD, set}
 use lib.Seq.{set-getD}
-use Rattle.model.specs.Problem.{Action, Node, terminal, decision, Problem, Cell, cell, nodeAt, _∈_, here, there}
+use Rattle.model.specs.Problem.{Action, terminal, decision, Problem, cell, nodeAt, _∈_, here, there}
 use Rattle.model.specs.QValue.{ceiling}
-use Rattle.model.specs.Ldfs.{Search, Visit, success, failure, halt, cellAt, valueAt, solvedAt, priceAt, onTest, onVisit, stored, marked, update, ifDear, visitAll, tryOne, tryAll, visitOpen, visit}
+use Rattle.model.specs.Ldfs.{Search, Visit, success, halt, valueAt, solvedAt, priceAt, onTest, onVisit, stored, marked, update, ifDear, visitAll, tryOne, tryAll, visitOpen, visit}
 
 -- to store the value that a state has changes nothing
 pub store-same : (s x : ℕ) (w : Search) → x ≡ valueAt w s → stored s x w ≡ w

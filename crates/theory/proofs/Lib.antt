@@ -1,1 +1,10 @@
+pub mod Basics
+pub mod QValueLaws
+pub mod Bellman
+pub mod PolicyLaws
+pub mod Admissible
 pub mod Facts
+pub mod Leads
+pub mod Visits
+pub mod Work
+pub mod Accepted

@@ -1,0 +1,46 @@
+-- Which problems and cells have bytes that read back, and the fields of a cell changed one by one.
+use Prim.Native.Nat.{ℕ, _≤_, _<_}
+use mathlib.Core.Path.{_≡_}
+use mathlib.Core.List.{List, [], _∷_}
+use lib.ListN.{length, getD, set}
+use Rattle.model.specs.Problem.{Action, Node, terminal, decision, Problem, Cell, cell, states, nodeAt, cellOf}
+use Rattle.model.specs.Questions.{maxStates}
+
+-- every element is a byte
+abbrev pub Bytes : List ℕ → Type 0
+Bytes s = (i : ℕ) → getD s i 0 < 256
+
+abbrev pub Few : {A : Type 0} → List A → Type 0
+Few xs = (1 ≤ length xs) × (length xs ≤ 16)
+
+abbrev pub ActionsShaped : List Action → Type 0
+ActionsShaped [] = Unit {0}
+ActionsShaped (a ∷ more) = Few (a .successors) × ActionsShaped more
+
+-- a decision has 1 to 16 actions, each with 1 to 16 successors
+abbrev pub NodeShaped : Node → Type 0
+NodeShaped (terminal cost) = Unit {0}
+NodeShaped (decision acts) = Few acts × ActionsShaped acts
+
+abbrev pub NodesShaped : List Node → Type 0
+NodesShaped [] = Unit {0}
+NodesShaped (n ∷ ns) = NodeShaped n × NodesShaped ns
+
+-- nothing is chosen at a terminal: its field has no place for it
+abbrev pub ChosenShaped : Node → Cell → Type 0
+ChosenShaped (terminal cost) c = c .chosen ≡ 0
+ChosenShaped (decision acts) c = Unit {0}
+
+pub record Shaped (p : Problem) (cells : List Cell) : Type 0 where
+  pub some : 1 ≤ states p
+  pub most : states p ≤ maxStates
+  pub start : p .start < states p
+  pub nodes : NodesShaped (p .nodes)
+  pub count : length cells ≡ states p
+  pub chosen : (s : ℕ) → s < states p → ChosenShaped (nodeAt p s) (cellOf cells s)
+
+abbrev pub setMark : List Cell → ℕ → ℕ → List Cell
+setMark cells s m = set cells s (cell (cellOf cells s .value) m (cellOf cells s .chosen))
+
+abbrev pub setChosen : List Cell → ℕ → ℕ → List Cell
+setChosen cells s i = set cells s (cell (cellOf cells s .value) (cellOf cells s .mark) i)

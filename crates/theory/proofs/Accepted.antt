@@ -1,0 +1,163 @@
+-- Yes to questions 3 to 8 is what the theory supposes, and what work keeps.
+use Prim.Native.Nat.{ℕ, zero, suc, _<_, _≤_}
+use mathlib.Core.Path.{_≡_, refl, ap, subst}
+use mathlib.Core.Bool.{Bool, true, false}
+use mathlib.Core.Logic.{_⊎_, inl, inr}
+use mathlib.Core.List.{List, [], _∷_}
+use native.Mathlib.Omega.{arith}
+use borrow.Author.Tests.{ltb-true, leb-true, eqb-true, lt-ltb, le-leb, eq-eqb}
+use lib.Dec.{ltb, leb, eqb}
+use lib.ListN.{length, getD, List·getD-eq-default}
+use Rattle.model.specs.Tests.{fork, also, all, every, also-true, true-also, all-true, true-all, every-true, true-every}
+use Rattle.model.specs.Problem.{Action, action, Node, terminal, decision, Problem, Cell, cell, states, nodeAt, actionAt, cellOf, valueOf, solved, _∈_, here, there}
+use Rattle.model.specs.QValue.{ceiling, q}
+use Rattle.model.specs.Questions.{everyState, everyAction, costsInRange, chosenInRange, cellInRange, question5, ascending, successorsInOrder, question6, valueUnder, question7, allSolved, passedBy, markEarned, question8}
+use Rattle.layout.specs.Shape.{NodeShaped, NodesShaped, ChosenShaped, Shaped}
+use Rattle.theory.specs.Consistent.{WellFormed, Settles, Sound, Consistent}
+use Rattle.theory.specs.Asked.{Asked}
+use Rattle.theory.proofs.Basics.{clash, lt-or-le}
+
+node-shaped : (ns : List Node) → NodesShaped ns → (s : ℕ) → NodeShaped (getD ns s (terminal 0))
+node-shaped [] h s = tt
+node-shaped (n ∷ ns) h zero = h .0
+node-shaped (n ∷ ns) h (suc s) = node-shaped ns (h .1) s
+
+ascending-in : (low n : ℕ) (ts : List ℕ) → ascending low n ts ≡ true → (t : ℕ) → t ∈ ts → (low < t) × (t < n)
+unfolding ascending
+ascending-in low n [] h t m = absurd (elim m [ ])
+ascending-in low n (u ∷ ts) h t m = go t m (ascending-in u n ts (g .1))
+  where
+    g : (all (ltb low u ∷ ltb u n ∷ []) ≡ true) × (ascending u n ts ≡ true)
+    g = also-true _ _ h
+
+    go : (t : ℕ) → t ∈ (u ∷ ts) → ((t : ℕ) → t ∈ ts → (u < t) × (t < n)) → (low < t) × (t < n)
+    go t here ih = let e = all-true _ (g .0) in (ltb-true _ _ (e .0), ltb-true _ _ (e .1 .0))
+    go t (there m) ih = let e = all-true _ (g .0) in (omega (arith, ltb-true low u (e .0), ih t m), ih t m .1)
+
+all-solved : (cells : List Cell) (ts : List ℕ) → allSolved cells ts ≡ true → (t : ℕ) → t ∈ ts → solved (cellOf cells t) ≡ true
+unfolding allSolved
+all-solved cells [] h t m = absurd (elim m [ ])
+all-solved cells (u ∷ ts) h t m = go t m (all-solved cells ts (also-true _ _ h .1))
+  where
+    go : (t : ℕ) → t ∈ (u ∷ ts) → ((t : ℕ) → t ∈ ts → solved (cellOf cells t) ≡ true) → solved (cellOf cells t) ≡ true
+    go t here ih = also-true _ _ h .0
+    go t (there m) ih = ih t m
+
+solved-all : (cells : List Cell) (ts : List ℕ) → ((t : ℕ) → t ∈ ts → solved (cellOf cells t) ≡ true) → allSolved cells ts ≡ true
+unfolding allSolved
+solved-all cells [] h = refl
+solved-all cells (t ∷ ts) h = true-also _ _ (h t here) (solved-all cells ts (λ u m. h u (there m)))
+
+chosen-zero : (n : Node) (c : Cell) → ChosenShaped n c → (cost : ℕ) → n ≡ terminal cost → c .chosen ≡ 0
+chosen-zero n c h cost e = subst (λ (m : Node). ChosenShaped m c) e h
+
+module _ (p : Problem) (cells : List Cell) (h : Asked p cells) where
+  is-state : (s : ℕ) (acts : List Action) → nodeAt p s ≡ decision acts → s < states p
+  is-state s acts e = go (lt-or-le s (states p))
+    where
+      go : (s < states p) ⊎ (states p ≤ s) → s < states p
+      go (inl l) = l
+      go (inr le) = let z : _≡_ {A = ℕ} 0 1 = cc (List·getD-eq-default (p .nodes) (terminal 0) {n = s} le) in absurd (omega arith)
+
+  five : (s : ℕ) → s < states p → (costsInRange (nodeAt p s) ≡ true) × (cellInRange (nodeAt p s) (cellOf cells s) ≡ true)
+  unfolding question5
+  five s l = let e = all-true _ (every-true (states p) _ (h .five) s l) in (e .0, e .1 .0)
+
+  six : (s : ℕ) → s < states p → successorsInOrder (states p) s (nodeAt p s) ≡ true
+  unfolding question6
+  six s l = every-true (states p) _ (h .six) s l
+
+  pub asked-problem : WellFormed p
+  unfolding costsInRange successorsInOrder ceiling
+  asked-problem = record {
+    starts = h .shaped .start;
+    has-action = λ s acts e. subst NodeShaped e (node-shaped (p .nodes) (h .shaped .nodes) s) .0 .0;
+    capped = λ s cost e. cap s cost e (lt-or-le s (states p));
+    forward = λ s i t acts e m. ahead s i t acts e m (lt-or-le i (length acts));
+  }
+    where
+      cap : (s cost : ℕ) → nodeAt p s ≡ terminal cost → (s < states p) ⊎ (states p ≤ s) → cost ≤ ceiling
+      cap s cost e (inl l) = omega (arith, leb-true cost 1000000 (rw e at (five s l .0)))
+      cap s cost e (inr le) = let z : cost ≡ 0 = cc (List·getD-eq-default (p .nodes) (terminal 0) {n = s} le) in omega arith
+
+      ahead : (s i t : ℕ) (acts : List Action) → nodeAt p s ≡ decision acts → t ∈ actionAt acts i .successors → (i < length acts) ⊎ (length acts ≤ i) → (s < t) × (t < states p)
+      ahead s i t acts e m (inl l) = ascending-in s (states p) (actionAt acts i .successors) (every-true (length acts) _ (rw e at (six s (is-state s acts e))) i l) t m
+      ahead s i t acts e m (inr le) = absurd (none (subst (λ (a : Action). t ∈ a .successors) (List·getD-eq-default acts (action 0 []) {n = i} le) m))
+        where
+          none : t ∈ [] → ⊥
+          none m = elim m [ ]
+
+  pub asked-cells : Consistent p cells
+  unfolding question7 question8 cellInRange chosenInRange valueUnder markEarned passedBy ceiling
+  asked-cells = record { size = h .shaped .count; sound = λ s. go s (lt-or-le s (states p)) }
+    where
+      go : (s : ℕ) → (s < states p) ⊎ (states p ≤ s) → Sound p cells s
+      go s (inl l) = record {
+        small = leb-true _ _ (range .0);
+        mark = leb-true _ _ (range .1 .0);
+        unchosen = λ o. open-chosen (nodeAt p s) refl o (range .1 .1 .0);
+        endless = λ cost e. chosen-zero (nodeAt p s) (cellOf cells s) (h .shaped .chosen s l) cost e;
+        under-cost = λ cost e. leb-true _ _ (rw e at seven);
+        under-q = λ acts i e l. leb-true _ _ (every-true (length acts) _ (rw e at seven) i l);
+        at-cost = λ cost e sol. eqb-true _ _ (rw (sol, e) at eight);
+        settles = λ acts e sol. let b = all-true _ (rw (sol, e) at eight) in
+            record { exists = ltb-true _ _ (rw (e, sol) at (range .1 .1 .0)); priced = eqb-true _ _ (b .0); below = all-solved cells _ (b .1 .0) };
+      }
+        where
+          range : (leb (cellOf cells s .value) ceiling ≡ true) × ((leb (cellOf cells s .mark) 1 ≡ true) × ((chosenInRange (nodeAt p s) (cellOf cells s) ≡ true) × Unit {0}))
+          range = all-true _ (five s l .1)
+
+          seven : valueUnder p cells s (nodeAt p s) ≡ true
+          seven = every-true (states p) _ (h .seven) s l
+
+          eight : fork (solved (cellOf cells s)) (λ _. markEarned p cells s (nodeAt p s)) (λ _. true) ≡ true
+          eight = every-true (states p) _ (h .eight) s l
+
+          open-chosen : (n : Node) → nodeAt p s ≡ n → solved (cellOf cells s) ≡ false → chosenInRange n (cellOf cells s) ≡ true → cellOf cells s .chosen ≡ 0
+          open-chosen (terminal cost) e o r = chosen-zero (nodeAt p s) (cellOf cells s) (h .shaped .chosen s l) cost e
+          open-chosen (decision acts) e o r = eqb-true _ _ (rw o at r)
+      go s (inr le) = record {
+        small = rw blank (omega arith);
+        mark = rw blank (omega arith);
+        unchosen = rw blank (λ _. refl);
+        endless = rw blank (λ cost e. refl);
+        under-cost = rw blank (λ cost e. omega arith);
+        under-q = λ acts i e l. rw blank (omega arith);
+        at-cost = rw blank (λ cost e sol. clash sol refl);
+        settles = λ acts e sol. clash sol (ap (λ (c : Cell). solved c) blank);
+      }
+        where
+          blank : cellOf cells s ≡ cell 0 0 0
+          blank = List·getD-eq-default cells (cell 0 0 0) {n = s} (rw (h .shaped .count) le)
+
+-- consistent cells of the same problem get a yes again
+pub still-asked : (p : Problem) (first cells : List Cell) → Asked p first → Consistent p cells → Asked p cells
+unfolding question5 question7 question8 cellInRange chosenInRange valueUnder markEarned passedBy
+still-asked p first cells h g = record {
+  shaped = record { some = h .shaped .some; most = h .shaped .most; start = h .shaped .start; nodes = h .shaped .nodes; count = g .size; chosen = λ s l. chosen s (nodeAt p s) refl };
+  five = true-every (states p) _ (λ s l. true-all _ (five p first h s l .0, (in-range s, tt)));
+  six = h .six;
+  seven = true-every (states p) _ (λ s l. under s (nodeAt p s) refl);
+  eight = true-every (states p) _ (λ s l. earned s (nodeAt p s) refl (solved (cellOf cells s)) refl);
+}
+  where
+    chosen : (s : ℕ) (n : Node) → nodeAt p s ≡ n → ChosenShaped n (cellOf cells s)
+    chosen s (terminal cost) e = g .sound s .endless cost e
+    chosen s (decision acts) e = tt
+
+    range : (s : ℕ) (n : Node) → nodeAt p s ≡ n → (b : Bool) → solved (cellOf cells s) ≡ b → chosenInRange n (cellOf cells s) ≡ true
+    range s (terminal cost) e b eb = refl
+    range s (decision acts) e true eb = rw eb (lt-ltb _ _ (g .sound s .settles acts e eb .exists))
+    range s (decision acts) e false eb = rw eb (eq-eqb _ _ (g .sound s .unchosen eb))
+
+    in-range : (s : ℕ) → cellInRange (nodeAt p s) (cellOf cells s) ≡ true
+    in-range s = true-all _ (le-leb _ _ (g .sound s .small), (le-leb _ _ (g .sound s .mark), (range s (nodeAt p s) refl (solved (cellOf cells s)) refl, tt)))
+
+    under : (s : ℕ) (n : Node) → nodeAt p s ≡ n → valueUnder p cells s n ≡ true
+    under s (terminal cost) e = le-leb _ _ (g .sound s .under-cost cost e)
+    under s (decision acts) e = true-every (length acts) _ (λ i l. le-leb _ _ (g .sound s .under-q acts i e l))
+
+    earned : (s : ℕ) (n : Node) → nodeAt p s ≡ n → (b : Bool) → solved (cellOf cells s) ≡ b → fork b (λ _. markEarned p cells s n) (λ _. true) ≡ true
+    earned s n e false eb = refl
+    earned s (terminal cost) e true eb = eq-eqb _ _ (g .sound s .at-cost cost e eb)
+    earned s (decision acts) e true eb = let r = g .sound s .settles acts e eb in true-all _ (eq-eqb _ _ (r .priced), (solved-all cells _ (r .below), tt))

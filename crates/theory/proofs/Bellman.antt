@@ -1,0 +1,74 @@
+-- V* solves the Bellman equation and is its only solution; the cut V* solves the cut equation.
+use Prim.Native.Nat.{ℕ, zero, suc, _+_, _<_, _≤_}
+use mathlib.Core.Path.{_≡_, refl, sym, ap, _∙_}
+use mathlib.Core.List.{List}
+use native.Mathlib.Omega.{arith}
+use Rattle.model.specs.Problem.{Action, Node, terminal, decision, Problem, states, nodeAt, actionAt}
+use Rattle.model.specs.QValue.{cut, q, qFull, least}
+use Rattle.model.specs.Optimal.{solution, bellmanAt, bellman, optimal}
+use Rattle.theory.specs.Consistent.{WellFormed}
+use Rattle.theory.proofs.Basics.{downward}
+use Rattle.theory.proofs.QValueLaws.{qFull-same, q-cut, least-below, least-attained, least-above, least-same}
+
+-- a step that looks at states above a state, and below n, only
+abbrev pub Local : ℕ → (ℕ → (ℕ → ℕ) → ℕ) → Type 0
+Local n step = (s : ℕ) (v v′ : ℕ → ℕ) → ((t : ℕ) → s < t → t < n → v t ≡ v′ t) → step s v ≡ step s v′
+
+-- has one solution
+module _ (n : ℕ) (step : ℕ → (ℕ → ℕ) → ℕ) (local : Local n step) where
+  any-fuel : (k m s : ℕ) → n ≤ s + suc k → n ≤ s + suc m → solution step k s ≡ solution step m s
+  unfolding solution
+  any-fuel zero zero s h g = refl
+  any-fuel zero (suc m) s h g = local s _ _ (λ t lt tn. absurd (omega arith))
+  any-fuel (suc k) zero s h g = local s _ _ (λ t lt tn. absurd (omega arith))
+  any-fuel (suc k) (suc m) s h g = local s _ _ (λ t lt tn. any-fuel k m t (omega arith) (omega arith))
+
+  pub solves : (s : ℕ) → solution step n s ≡ step s (solution step n)
+  unfolding solution
+  solves s = any-fuel n (suc n) s (omega arith) (omega arith)
+
+  pub only : (v : ℕ → ℕ) → ((s : ℕ) → v s ≡ step s v) → (s : ℕ) → v s ≡ solution step n s
+  only v h = downward (λ s. v s ≡ solution step n s) n (λ s ih. h s ∙ local s v (solution step n) ih ∙ sym (solves s))
+
+module _ (p : Problem) (wf : WellFormed p) where
+  bellman-local : Local (states p) (bellman p)
+  unfolding bellmanAt
+  bellman-local s v v′ h = go (nodeAt p s) refl
+    where
+      go : (n : Node) → nodeAt p s ≡ n → bellmanAt (p .kind) v n ≡ bellmanAt (p .kind) v′ n
+      go (terminal cost) e = refl
+      go (decision acts) e =
+          least-same (qFull (p .kind) v) (qFull (p .kind) v′) acts
+          (λ i l. qFull-same (p .kind) v v′ (actionAt acts i) (λ t m. let f = wf .forward s i t acts e m in h t (f .0) (f .1)))
+
+  pub optimal-solves : (s : ℕ) → optimal p s ≡ bellman p s (optimal p)
+  unfolding optimal
+  optimal-solves = solves (states p) (bellman p) bellman-local
+
+  pub optimal-only : (v : ℕ → ℕ) → ((s : ℕ) → v s ≡ bellman p s v) → (s : ℕ) → v s ≡ optimal p s
+  unfolding optimal
+  optimal-only = only (states p) (bellman p) bellman-local
+
+  pub optimal-terminal : (s cost : ℕ) → nodeAt p s ≡ terminal cost → optimal p s ≡ cost
+  unfolding bellmanAt
+  optimal-terminal s cost e = optimal-solves s ∙ ap (bellmanAt (p .kind) (optimal p)) e
+
+  pub optimal-decision : (s : ℕ) (acts : List Action) → nodeAt p s ≡ decision acts → optimal p s ≡ least (qFull (p .kind) (optimal p)) acts
+  unfolding bellmanAt
+  optimal-decision s acts e = optimal-solves s ∙ ap (bellmanAt (p .kind) (optimal p)) e
+
+  -- the cut equation: prices by the cut V*, and the least of them
+  pub optimal-cut : (s : ℕ) (acts : List Action) → nodeAt p s ≡ decision acts → cut (optimal p s) ≡ least (q (p .kind) (λ t. cut (optimal p t))) acts
+  optimal-cut s acts e =
+      let some = wf .has-action s acts e in
+      let f : Action → ℕ = qFull (p .kind) (optimal p) in
+      let g : Action → ℕ = q (p .kind) (λ t. cut (optimal p t)) in
+      let r = least-attained f acts some in
+      omega (
+        arith,
+        optimal-decision s acts e,
+        r .2,
+        q-cut (p .kind) (optimal p) (actionAt acts (r .0)),
+        least-below g acts (r .0) (r .1),
+        least-above g acts (cut (optimal p s)) some (λ i l. omega (arith, optimal-decision s acts e, q-cut (p .kind) (optimal p) (actionAt acts i), least-below f acts i l)),
+      )

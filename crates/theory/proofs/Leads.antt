@@ -1,0 +1,197 @@
+-- What a piece of search keeps and gains, in one relation; that a raise and a mark are such pieces.
+use Prim.Native.Nat.{ℕ, suc, _+_, _<_, _≤_}
+use mathlib.Core.Path.{_≡_, refl, sym, ap, _∙_}
+use mathlib.Core.Bool.{true, false}
+use mathlib.Core.Logic.{_⊎_, inl, inr, _≢_}
+use mathlib.Core.List.{List}
+use native.Mathlib.Omega.{arith}
+use lib.ListN.{length, set, length-set}
+use lib.Seq.{getD-set-same, getD-set-other}
+use Rattle.model.specs.Problem.{Action, terminal, decision, Problem, Cell, cell, states, nodeAt, actionAt, cellOf, valueOf, solved, _∈_}
+use Rattle.model.specs.QValue.{ceiling, q}
+use Rattle.model.specs.Ldfs.{Search, cellAt, valueAt, solvedAt, priceAt, raised, marked}
+use Rattle.model.specs.Optimal.{sumBelow}
+use Rattle.theory.specs.Consistent.{Sound, Consistent}
+use Rattle.theory.proofs.Basics.{clash, same-or-not, sum-mono, sum-strict}
+use Rattle.theory.proofs.QValueLaws.{q-mono, qFull-same}
+
+-- consistent cells, and no more raises than the budget
+pub record Ready (p : Problem) (budget : ℕ) (w : Search) : Type 0 where
+  pub consistent : Consistent p (w .cells)
+  pub within : w .raises ≤ budget
+
+-- from w to w′ by search that leaves the states below s alone
+pub record Leads (p : Problem) (budget s : ℕ) (w w′ : Search) : Type 0 where
+  pub ready : Ready p budget w′
+  -- values never fall
+  pub rises : (u : ℕ) → valueAt w u ≤ valueAt w′ u
+  -- solved cells never change
+  pub keeps : (u : ℕ) → solvedAt w u ≡ true → cellAt w′ u ≡ cellAt w u
+  -- only states from s up change
+  pub below : (u : ℕ) → u < s → cellAt w′ u ≡ cellAt w u
+  pub counts : w .raises ≤ w′ .raises
+  -- each raise lifts one value by at least 1
+  pub paid : w′ .raises + sumBelow (states p) (valueAt w) ≤ w .raises + sumBelow (states p) (valueAt w′)
+  -- no raise, no value changed
+  pub quiet : w′ .raises ≡ w .raises → (u : ℕ) → valueAt w′ u ≡ valueAt w u
+
+pub value-of : {c c′ : Cell} → c ≡ c′ → c .value ≡ c′ .value
+value-of e = ap (λ (c : Cell). c .value) e
+
+pub solved-of : {c c′ : Cell} → c ≡ c′ → solved c ≡ solved c′
+solved-of e = ap (λ (c : Cell). solved c) e
+
+module _ {p : Problem} {budget : ℕ} where
+  pub stay : {s : ℕ} {w : Search} → Ready p budget w → Leads p budget s w w
+  stay r = record { ready = r; rises = λ u. omega arith; keeps = λ u h. refl; below = λ u h. refl; counts = omega arith; paid = omega arith; quiet = λ h u. refl }
+
+  pub then : {s : ℕ} {w w′ w″ : Search} → Leads p budget s w w′ → Leads p budget s w′ w″ → Leads p budget s w w″
+  then {s} {w} {w′} {w″} a b = record {
+    ready = b .ready;
+    rises = λ u. omega (arith, a .rises u, b .rises u);
+    keeps = λ u h. b .keeps u (solved-of (a .keeps u h) ∙ h) ∙ a .keeps u h;
+    below = λ u h. b .below u h ∙ a .below u h;
+    counts = omega (arith, a .counts, b .counts);
+    paid = omega (arith, a .paid, b .paid);
+    quiet = λ h u. b .quiet (omega (arith, h, a .counts, b .counts)) u ∙ a .quiet (omega (arith, h, a .counts, b .counts)) u;
+  }
+
+  -- who leaves more states alone leaves fewer alone
+  pub wider : {s t : ℕ} {w w′ : Search} → s ≤ t → Leads p budget t w w′ → Leads p budget s w w′
+  wider le a = record { ready = a .ready; rises = a .rises; keeps = a .keeps; below = λ u h. a .below u (omega arith); counts = a .counts; paid = a .paid; quiet = a .quiet }
+
+-- a state whose own cell stays is still sound when values rise and solved cells stay
+keep-sound : (p : Problem) (cells cells′ : List Cell) (u : ℕ) → cellOf cells′ u ≡ cellOf cells u → ((t : ℕ) → valueOf cells t ≤ valueOf cells′ t) →
+    ((t : ℕ) → solved (cellOf cells t) ≡ true → cellOf cells′ t ≡ cellOf cells t) → Sound p cells u → Sound p cells′ u
+keep-sound p cells cells′ u e rises keeps h = record {
+  small = rw e (h .small);
+  mark = rw e (h .mark);
+  unchosen = rw e (h .unchosen);
+  endless = rw e (h .endless);
+  under-cost = rw e (h .under-cost);
+  under-q = λ acts i n l. omega (arith, value-of e, h .under-q acts i n l, q-mono (p .kind) (valueOf cells) (valueOf cells′) (actionAt acts i) (λ t m. rises t));
+  at-cost = rw e (h .at-cost);
+  settles = λ acts n sol. let g = h .settles acts n (solved-of (sym e) ∙ sol) in record {
+    exists = rw e (g .exists);
+    priced = rw e (omega (arith, g .priced, qFull-same (p .kind) (valueOf cells) (valueOf cells′) (actionAt acts (cellOf cells u .chosen)) (λ t m. value-of (sym (keeps t (g .below t m))))));
+    below = rw e (λ t m. solved-of (keeps t (g .below t m)) ∙ g .below t m);
+  };
+}
+
+-- the cell c put at an open state s, whose value does not fall, with r raises made by then
+module _ (p : Problem) (budget s r : ℕ) (w : Search) (c : Cell) (ready : Ready p budget w) (state : s < states p) (isOpen : solvedAt w s ≡ false) (up : valueAt w s ≤ c .value) where
+  abbrev w′ : Search
+  w′ = record { cells = set (w .cells) s c; raises = r }
+
+  put-same : cellAt w′ s ≡ c
+  put-same = getD-set-same (w .cells) s c (cell 0 0 0) (rw (ready .consistent .size) state)
+
+  put-other : (u : ℕ) → u ≢ s → cellAt w′ u ≡ cellAt w u
+  put-other u n = getD-set-other (w .cells) s u c (cell 0 0 0) n
+
+  put-rises : (u : ℕ) → valueAt w u ≤ valueAt w′ u
+  put-rises u = go (same-or-not u s)
+    where
+      go : (u ≡ s) ⊎ (u ≢ s) → valueAt w u ≤ valueAt w′ u
+      go (inl e) = rw e (omega (arith, value-of put-same, up))
+      go (inr n) = omega (arith, value-of (put-other u n))
+
+  put-keeps : (u : ℕ) → solvedAt w u ≡ true → cellAt w′ u ≡ cellAt w u
+  put-keeps u h = put-other u (λ e. clash h (rw e isOpen))
+
+  put-leads : Sound p (w′ .cells) s → w .raises ≤ r → r ≤ budget →
+      r + sumBelow (states p) (valueAt w) ≤ w .raises + sumBelow (states p) (valueAt w′) →
+      (r ≡ w .raises → (u : ℕ) → valueAt w′ u ≡ valueAt w u) → Leads p budget s w w′
+  put-leads sound counts within paid quiet = record {
+    ready = record { consistent = record { size = simp length-set (ready .consistent .size); sound = λ u. go u (same-or-not u s) }; within = within };
+    rises = put-rises;
+    keeps = put-keeps;
+    below = λ u h. put-other u (omega arith);
+    counts = counts;
+    paid = paid;
+    quiet = quiet;
+  }
+    where
+      go : (u : ℕ) → (u ≡ s) ⊎ (u ≢ s) → Sound p (w′ .cells) u
+      go u (inl e) = rw e sound
+      go u (inr n) = keep-sound p (w .cells) (w′ .cells) u (put-other u n) put-rises put-keeps (ready .consistent .sound u)
+
+-- a value that a state may rise to
+pub record Fits (p : Problem) (cells : List Cell) (s x : ℕ) : Type 0 where
+  pub small : x ≤ ceiling
+  pub under-cost : (cost : ℕ) → nodeAt p s ≡ terminal cost → x ≤ cost
+  pub under-q : (acts : List Action) (i : ℕ) → nodeAt p s ≡ decision acts → i < length acts → x ≤ q (p .kind) (valueOf cells) (actionAt acts i)
+
+module _ (p : Problem) (budget s x : ℕ) (w : Search) (ready : Ready p budget w) (state : s < states p) where
+  abbrev c : Cell
+  c = cell x (cellAt w s .mark) (cellAt w s .chosen)
+
+  pub raised-cell : cellAt (raised s x w) s ≡ c
+  raised-cell = getD-set-same (w .cells) s c (cell 0 0 0) (rw (ready .consistent .size) state)
+
+  module _ (isOpen : solvedAt w s ≡ false) (up : valueAt w s < x) (fits : Fits p (w .cells) s x) where
+    rises : (u : ℕ) → valueAt w u ≤ valueAt (raised s x w) u
+    rises = put-rises p budget s (suc (w .raises)) w c ready state isOpen (omega arith)
+
+    raise-sound : Sound p (raised s x w .cells) s
+    raise-sound = let h = ready .consistent .sound s in record {
+      small = rw raised-cell (fits .small);
+      mark = rw raised-cell (h .mark);
+      unchosen = rw raised-cell (h .unchosen);
+      endless = rw raised-cell (h .endless);
+      under-cost = rw raised-cell (fits .under-cost);
+      under-q = λ acts i n l. omega (arith, value-of raised-cell, fits .under-q acts i n l, q-mono (p .kind) (valueAt w) (valueAt (raised s x w)) (actionAt acts i) (λ t m. rises t));
+      at-cost = rw raised-cell (λ cost n sol. clash sol isOpen);
+      settles = λ acts n sol. clash sol (solved-of raised-cell ∙ isOpen);
+    }
+
+    pub raise-leads : w .raises < budget → Leads p budget s w (raised s x w)
+    raise-leads room =
+        put-leads p budget s (suc (w .raises)) w c ready state isOpen (omega arith) raise-sound (omega arith) (omega arith)
+        (omega (arith, sum-strict (valueAt w) (valueAt (raised s x w)) rises (states p) s state (omega (arith, value-of raised-cell, up))))
+        (λ e. absurd (omega arith))
+
+-- a state that may be marked, with action i chosen
+pub record Done (p : Problem) (w : Search) (s i : ℕ) : Type 0 where
+  pub at-cost : (cost : ℕ) → nodeAt p s ≡ terminal cost → (i ≡ 0) × (valueAt w s ≡ cost)
+  pub exists : (acts : List Action) → nodeAt p s ≡ decision acts → i < length acts
+  pub priced : (acts : List Action) → nodeAt p s ≡ decision acts → valueAt w s ≡ priceAt p w (actionAt acts i)
+  pub solves : (acts : List Action) (t : ℕ) → nodeAt p s ≡ decision acts → t ∈ actionAt acts i .successors → solvedAt w t ≡ true
+
+module _ (p : Problem) (budget s i : ℕ) (w : Search) (ready : Ready p budget w) (state : s < states p) (isOpen : solvedAt w s ≡ false) (done : Done p w s i) where
+  abbrev d : Cell
+  d = cell (valueAt w s) 1 i
+
+  marked-cell : cellAt (marked s i w) s ≡ d
+  marked-cell = getD-set-same (w .cells) s d (cell 0 0 0) (rw (ready .consistent .size) state)
+
+  marked-values : (t : ℕ) → valueAt (marked s i w) t ≡ valueAt w t
+  marked-values t = go (same-or-not t s)
+    where
+      go : (t ≡ s) ⊎ (t ≢ s) → valueAt (marked s i w) t ≡ valueAt w t
+      go (inl e) = rw e (value-of marked-cell)
+      go (inr n) = value-of (getD-set-other (w .cells) s t d (cell 0 0 0) n)
+
+  mark-sound : Sound p (marked s i w .cells) s
+  mark-sound = let h = ready .consistent .sound s in record {
+    small = rw marked-cell (h .small);
+    mark = rw marked-cell (omega arith);
+    unchosen = rw marked-cell (λ sol. clash refl sol);
+    endless = rw marked-cell (λ cost n. done .at-cost cost n .0);
+    under-cost = rw marked-cell (h .under-cost);
+    under-q = λ acts j n l. omega (arith, marked-values s, h .under-q acts j n l, q-mono (p .kind) (valueAt w) (valueAt (marked s i w)) (actionAt acts j) (λ t m. omega (arith, marked-values t)));
+    at-cost = rw marked-cell (λ cost n sol. done .at-cost cost n .1);
+    settles = λ acts n sol. record {
+      exists = rw marked-cell (done .exists acts n);
+      priced = rw marked-cell (omega (arith, done .priced acts n, qFull-same (p .kind) (valueAt w) (valueAt (marked s i w)) (actionAt acts i) (λ t m. sym (marked-values t))));
+      below = rw marked-cell (λ t m. let e = done .solves acts t n m in solved-of (put-keeps p budget s (w .raises) w d ready state isOpen (omega arith) t e) ∙ e);
+    };
+  }
+
+  pub mark-leads : Leads p budget s w (marked s i w) × (solvedAt (marked s i w) s ≡ true)
+  mark-leads = (
+    put-leads p budget s (w .raises) w d ready state isOpen (omega arith) mark-sound (omega arith) (ready .within)
+        (omega (arith, sum-mono (valueAt w) (valueAt (marked s i w)) (λ t. omega (arith, marked-values t)) (states p)))
+        (λ _. marked-values),
+    solved-of marked-cell,
+  )

@@ -1,0 +1,44 @@
+-- What the theory supposes of a problem and its cells: what questions 3 to 8 come to, state by state.
+use Prim.Native.Nat.{ℕ, _<_, _≤_}
+use mathlib.Core.Path.{_≡_}
+use mathlib.Core.Bool.{true, false}
+use mathlib.Core.List.{List}
+use lib.ListN.{length}
+use Rattle.model.specs.Problem.{Action, terminal, decision, Problem, Cell, states, nodeAt, actionAt, cellOf, valueOf, solved, _∈_}
+use Rattle.model.specs.QValue.{ceiling, q}
+
+-- of the problem alone
+pub record WellFormed (p : Problem) : Type 0 where
+  -- 3: the start is a state
+  pub starts : p .start < states p
+  -- 4: a decision has an action
+  pub has-action : (s : ℕ) (acts : List Action) → nodeAt p s ≡ decision acts → 0 < length acts
+  -- 5: no terminal costs more than the ceiling
+  pub capped : (s cost : ℕ) → nodeAt p s ≡ terminal cost → cost ≤ ceiling
+  -- 6: successors are states above their decision
+  pub forward : (s i t : ℕ) (acts : List Action) → nodeAt p s ≡ decision acts → t ∈ actionAt acts i .successors → (s < t) × (t < states p)
+
+-- a decision's chosen action exists, has the decision's value for a price, and leads to solved states only
+pub record Settles (p : Problem) (cells : List Cell) (s : ℕ) (acts : List Action) : Type 0 where
+  pub exists : cellOf cells s .chosen < length acts
+  pub priced : cellOf cells s .value ≡ q (p .kind) (valueOf cells) (actionAt acts (cellOf cells s .chosen))
+  pub below : (t : ℕ) → t ∈ actionAt acts (cellOf cells s .chosen) .successors → solved (cellOf cells t) ≡ true
+
+-- of one state
+pub record Sound (p : Problem) (cells : List Cell) (s : ℕ) : Type 0 where
+  -- 5
+  pub small : cellOf cells s .value ≤ ceiling
+  pub mark : cellOf cells s .mark ≤ 1
+  pub unchosen : solved (cellOf cells s) ≡ false → cellOf cells s .chosen ≡ 0
+  -- a terminal's field has no chosen action
+  pub endless : (cost : ℕ) → nodeAt p s ≡ terminal cost → cellOf cells s .chosen ≡ 0
+  -- 7
+  pub under-cost : (cost : ℕ) → nodeAt p s ≡ terminal cost → cellOf cells s .value ≤ cost
+  pub under-q : (acts : List Action) (i : ℕ) → nodeAt p s ≡ decision acts → i < length acts → cellOf cells s .value ≤ q (p .kind) (valueOf cells) (actionAt acts i)
+  -- 8
+  pub at-cost : (cost : ℕ) → nodeAt p s ≡ terminal cost → solved (cellOf cells s) ≡ true → cellOf cells s .value ≡ cost
+  pub settles : (acts : List Action) → nodeAt p s ≡ decision acts → solved (cellOf cells s) ≡ true → Settles p cells s acts
+
+pub record Consistent (p : Problem) (cells : List Cell) : Type 0 where
+  pub size : length cells ≡ states p
+  pub sound : (s : ℕ) → Sound p cells s
