@@ -2,7 +2,7 @@
 use Prim.Native.Nat.{ℕ, zero, suc, _+_, _-_}
 use mathlib.Core.List.{List}
 use Rattle.model.specs.Problem.{Kind, Node, terminal, decision, Problem, Cell, states, nodeAt, valueOf}
-use Rattle.model.specs.QValue.{qFull, least, cut}
+use Rattle.model.specs.QValue.{qFull, q, least, cut}
 
 -- f with f s ≡ step s f, where step s looks at states above s only; the number bounds how deep it looks
 unfoldable pub solution : (ℕ → (ℕ → ℕ) → ℕ) → ℕ → ℕ → ℕ
@@ -21,6 +21,14 @@ bellman p s v = bellmanAt (p .kind) v (nodeAt p s)
 -- V*, the least cost
 unfoldable pub optimal : Problem → ℕ → ℕ
 optimal p = solution (bellman p) (states p)
+
+-- the right side of the cut equation: the same with everything cut to the ceiling, which is the price of a check
+unfoldable pub bellmanCutAt : Kind → (ℕ → ℕ) → Node → ℕ
+bellmanCutAt k v (terminal cost) = cut cost
+bellmanCutAt k v (decision acts) = least (q k v) acts
+
+abbrev pub bellmanCut : Problem → ℕ → (ℕ → ℕ) → ℕ
+bellmanCut p s v = bellmanCutAt (p .kind) v (nodeAt p s)
 
 -- a stage's gap: its least cost, cut to the ceiling, less its value
 abbrev pub gap : Problem → List Cell → ℕ → ℕ

@@ -6,18 +6,18 @@ use mathlib.Core.Logic.{_⊎_, inl, inr}
 use mathlib.Core.List.{List, [], _∷_}
 use native.Mathlib.Omega.{arith}
 use borrow.Author.Tests.{ltb-true, leb-true, eqb-true, lt-ltb, le-leb, eq-eqb}
-use lib.Dec.{ltb, leb, eqb}
+use lib.Dec.{ltb, leb}
 use lib.ListN.{length, getD, List·getD-eq-default}
-use Rattle.model.specs.Tests.{fork, also, all, every, also-true, true-also, all-true, true-all, every-true, true-every}
-use Rattle.model.specs.Problem.{Action, action, Node, terminal, decision, Problem, Cell, cell, states, nodeAt, actionAt, cellOf, valueOf, solved, _∈_, here, there}
-use Rattle.model.specs.QValue.{ceiling, q}
-use Rattle.model.specs.Questions.{everyState, everyAction, costsInRange, chosenInRange, cellInRange, question5, ascending, successorsInOrder, question6, valueUnder, question7, allSolved, passedBy, markEarned, question8}
-use Rattle.layout.specs.Shape.{NodeShaped, NodesShaped, ChosenShaped, Shaped}
-use Rattle.theory.specs.Consistent.{WellFormed, Settles, Sound, Consistent}
+use Rattle.model.specs.Tests.{fork, all, also-true, true-also, all-true, true-all, every-true, true-every}
+use Rattle.model.specs.Problem.{Action, action, Node, terminal, decision, Problem, Cell, cell, states, nodeAt, actionAt, cellOf, solved, _∈_, here, there}
+use Rattle.model.specs.QValue.{ceiling}
+use Rattle.model.specs.Questions.{costsInRange, chosenInRange, cellInRange, question5, ascending, successorsInOrder, question6, valueUnder, question7, allSolved, passedBy, markEarned, question8}
+use Rattle.layout.specs.Shape.{NodeShaped, NodesShaped, ChosenShaped}
+use Rattle.theory.specs.Consistent.{WellFormed, Sound, Consistent}
 use Rattle.theory.specs.Asked.{Asked}
 use Rattle.theory.proofs.Basics.{clash, lt-or-le}
 
-node-shaped : (ns : List Node) → NodesShaped ns → (s : ℕ) → NodeShaped (getD ns s (terminal 0))
+pub node-shaped : (ns : List Node) → NodesShaped ns → (s : ℕ) → NodeShaped (getD ns s (terminal 0))
 node-shaped [] h s = tt
 node-shaped (n ∷ ns) h zero = h .0
 node-shaped (n ∷ ns) h (suc s) = node-shaped ns (h .1) s

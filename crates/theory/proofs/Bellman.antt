@@ -5,7 +5,7 @@ use mathlib.Core.List.{List}
 use native.Mathlib.Omega.{arith}
 use Rattle.model.specs.Problem.{Action, Node, terminal, decision, Problem, states, nodeAt, actionAt}
 use Rattle.model.specs.QValue.{cut, q, qFull, least}
-use Rattle.model.specs.Optimal.{solution, bellmanAt, bellman, optimal}
+use Rattle.model.specs.Optimal.{solution, bellmanAt, bellman, bellmanCutAt, bellmanCut, optimal}
 use Rattle.theory.specs.Consistent.{WellFormed}
 use Rattle.theory.proofs.Basics.{downward}
 use Rattle.theory.proofs.QValueLaws.{qFull-same, q-cut, least-below, least-attained, least-above, least-same}
@@ -57,9 +57,8 @@ module _ (p : Problem) (wf : WellFormed p) where
   unfolding bellmanAt
   optimal-decision s acts e = optimal-solves s ∙ ap (bellmanAt (p .kind) (optimal p)) e
 
-  -- the cut equation: prices by the cut V*, and the least of them
-  pub optimal-cut : (s : ℕ) (acts : List Action) → nodeAt p s ≡ decision acts → cut (optimal p s) ≡ least (q (p .kind) (λ t. cut (optimal p t))) acts
-  optimal-cut s acts e =
+  cut-decision : (s : ℕ) (acts : List Action) → nodeAt p s ≡ decision acts → cut (optimal p s) ≡ least (q (p .kind) (λ t. cut (optimal p t))) acts
+  cut-decision s acts e =
       let some = wf .has-action s acts e in
       let f : Action → ℕ = qFull (p .kind) (optimal p) in
       let g : Action → ℕ = q (p .kind) (λ t. cut (optimal p t)) in
@@ -72,3 +71,12 @@ module _ (p : Problem) (wf : WellFormed p) where
         least-below g acts (r .0) (r .1),
         least-above g acts (cut (optimal p s)) some (λ i l. omega (arith, optimal-decision s acts e, q-cut (p .kind) (optimal p) (actionAt acts i), least-below f acts i l)),
       )
+
+  -- the cut V* solves the cut equation
+  pub optimal-cut : (s : ℕ) → cut (optimal p s) ≡ bellmanCut p s (λ t. cut (optimal p t))
+  unfolding bellmanCutAt
+  optimal-cut s = go (nodeAt p s) refl
+    where
+      go : (n : Node) → nodeAt p s ≡ n → cut (optimal p s) ≡ bellmanCutAt (p .kind) (λ t. cut (optimal p t)) n
+      go (terminal cost) e = ap (λ (x : ℕ). cut x) (optimal-terminal s cost e)
+      go (decision acts) e = cut-decision s acts e

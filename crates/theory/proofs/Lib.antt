@@ -8,3 +8,10 @@ pub mod Leads
 pub mod Visits
 pub mod Work
 pub mod Accepted
+pub mod Sheets
+pub mod Called
+pub mod Promises
+pub mod Demand
+pub mod Example
+pub mod Turns
+pub mod Pricing

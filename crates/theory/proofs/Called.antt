@@ -1,0 +1,130 @@
+-- One call on an accepted sheet, and a list of calls: what the bytes keep, and what is reported.
+use Prim.Native.Nat.{ℕ, zero, suc, _+_, _<_, _≤_}
+use mathlib.Core.Path.{_≡_, refl, _∙_, subst}
+use mathlib.Core.Bool.{Bool, true, false}
+use mathlib.Core.List.{List, [], _∷_}
+use native.Mathlib.Omega.{arith}
+use lib.ListN.{length}
+use Rattle.model.specs.Problem.{Node, terminal, decision, Problem, Cell, states, nodeAt, cellOf, valueOf, solved}
+use Rattle.model.specs.Format.{write}
+use Rattle.model.specs.Read.{problemOf, cellsOf}
+use Rattle.model.specs.QValue.{ceiling}
+use Rattle.model.specs.Questions.{question2, refusal}
+use Rattle.model.specs.Ldfs.{work}
+use Rattle.model.specs.Optimal.{sumBelow}
+use Rattle.model.specs.Report.{cellsAfter, refused, finished, onRefusal, answerTo, bytesAfter}
+use Rattle.model.specs.Calls.{Call, after, afterAll, answers, raisesIn}
+use Rattle.layout.specs.Shape.{Bytes, NodeShaped}
+use Rattle.layout.proofs.Places.{write-length}
+use Rattle.layout.proofs.Stay.{FitsField, write-bytes}
+use Rattle.theory.specs.Consistent.{WellFormed, Consistent}
+use Rattle.theory.proofs.Leads.{solved-of}
+use Rattle.theory.proofs.Work.{work-does}
+use Rattle.theory.proofs.Accepted.{node-shaped, asked-problem, asked-cells, still-asked}
+use Rattle.theory.proofs.Sheets.{Stands, stands-problem, stands-cells}
+
+-- What a call answers and leaves, by its refusal.
+module _ (s : List ℕ) (entries budget : ℕ) where
+  pub answer-worked : refusal s entries budget ≡ 0 → answerTo s entries budget ≡ finished (problemOf s) (work (problemOf s) (cellsOf s) budget)
+  unfolding answerTo onRefusal
+  answer-worked e = rw e
+
+  pub bytes-worked : refusal s entries budget ≡ 0 → bytesAfter s entries budget ≡ write (problemOf s) (cellsAfter (work (problemOf s) (cellsOf s) budget))
+  unfolding bytesAfter onRefusal
+  bytes-worked e = rw e
+
+  pub answer-refused : (n : ℕ) → refusal s entries budget ≡ suc n → answerTo s entries budget ≡ refused (suc n)
+  unfolding answerTo onRefusal
+  answer-refused n e = rw e
+
+  pub bytes-refused : (n : ℕ) → refusal s entries budget ≡ suc n → bytesAfter s entries budget ≡ s
+  unfolding bytesAfter onRefusal
+  bytes-refused n e = rw e
+
+-- from some cells to others by so many raises
+pub record Kept (p : Problem) (cells cells′ : List Cell) (raises : ℕ) : Type 0 where
+  pub rises : (s : ℕ) → valueOf cells s ≤ valueOf cells′ s
+  pub keeps : (s : ℕ) → solved (cellOf cells s) ≡ true → cellOf cells′ s ≡ cellOf cells s
+  pub paid : raises + sumBelow (states p) (valueOf cells) ≤ sumBelow (states p) (valueOf cells′)
+
+kept-all : (p : Problem) (cells : List Cell) → Kept p cells cells 0
+kept-all p cells = record { rises = λ s. omega arith; keeps = λ s e. refl; paid = omega arith }
+
+kept-then : {p : Problem} {a b c : List Cell} {m n : ℕ} → Kept p a b m → Kept p b c n → Kept p a c (m + n)
+kept-then f g = record {
+  rises = λ s. omega (arith, f .rises s, g .rises s);
+  keeps = λ s e. g .keeps s (solved-of (f .keeps s e) ∙ e) ∙ f .keeps s e;
+  paid = omega (arith, f .paid, g .paid);
+}
+
+-- what one call does to a sheet that stands for p and cells
+pub record Called (s : List ℕ) (p : Problem) (cells : List Cell) (entries budget : ℕ) : Type 0 where
+  pub next : List Cell
+  pub stands : Stands (bytesAfter s entries budget) p next
+  pub kept : Kept p cells next (answerTo s entries budget .raises)
+  pub spent : refusal s entries budget ≡ 0 → solved (cellOf next (p .start)) ≡ false → answerTo s entries budget .raises ≡ budget
+  pub few : answerTo s entries budget .passes ≤ suc (answerTo s entries budget .raises)
+
+module _ (s : List ℕ) (p : Problem) (cells : List Cell) (h : Stands s p cells) where
+  wf : WellFormed p
+  wf = asked-problem p cells (h .asked)
+
+  -- a chosen action's number fits a byte
+  chosen-fits : (cells′ : List Cell) → Consistent p cells′ → (t : ℕ) → cellOf cells′ t .chosen < 256
+  chosen-fits cells′ g t = go (nodeAt p t) refl (solved (cellOf cells′ t)) refl
+    where
+      go : (n : Node) → nodeAt p t ≡ n → (b : Bool) → solved (cellOf cells′ t) ≡ b → cellOf cells′ t .chosen < 256
+      go n e false o = omega (arith, g .sound t .unchosen o)
+      go (terminal cost) e true o = omega (arith, g .sound t .endless cost e)
+      go (decision acts) e true o = omega (arith, g .sound t .settles acts e o .exists, subst NodeShaped e (node-shaped (p .nodes) (h .asked .shaped .nodes) t) .0 .1)
+
+  -- consistent cells of the same problem, written, stand for it
+  rewritten : (cells′ : List Cell) → Consistent p cells′ → Stands (write p cells′) p cells′
+  unfolding question2 ceiling
+  rewritten cells′ g = record {
+    is = refl;
+    bytes = write-bytes p cells cells′ fits (subst Bytes (h .is) (h .bytes));
+    size = rw (write-length p cells′ cells, ← h .is) (h .size);
+    asked = still-asked p cells cells′ (h .asked) g;
+  }
+    where
+      fits : (t : ℕ) → FitsField (cellOf cells′ t)
+      fits t = record { value = omega (arith, g .sound t .small); mark = omega (arith, g .sound t .mark); chosen = chosen-fits cells′ g t }
+
+  pub call-does : (entries budget : ℕ) → Called s p cells entries budget
+  call-does entries budget = go (refusal s entries budget) refl
+    where
+      go : (n : ℕ) → refusal s entries budget ≡ n → Called s p cells entries budget
+      go zero e =
+          let r = work-does p wf cells budget (asked-cells p cells (h .asked)) in
+          let a : answerTo s entries budget ≡ finished p (work p cells budget) = rw (answer-worked s entries budget e, stands-problem s p cells h, stands-cells s p cells h) in
+          record {
+            next = cellsAfter (work p cells budget);
+            stands = rw (bytes-worked s entries budget e, stands-problem s p cells h, stands-cells s p cells h) (rewritten (cellsAfter (work p cells budget)) (r .consistent));
+            kept = rw a (record { rises = r .rises; keeps = r .keeps; paid = r .paid });
+            spent = λ _ o. rw a (r .spent o);
+            few = rw a (r .few);
+          }
+      go (suc n) e =
+          let a = answer-refused s entries budget n e in
+          record {
+            next = cells;
+            stands = rw (bytes-refused s entries budget n e) h;
+            kept = rw a (kept-all p cells);
+            spent = λ z. absurd (omega arith);
+            few = rw a (omega arith);
+          }
+
+-- what a list of calls does to it
+pub record CalledAll (s : List ℕ) (p : Problem) (cells : List Cell) (calls : List Call) : Type 0 where
+  pub last : List Cell
+  pub stands : Stands (afterAll s calls) p last
+  pub kept : Kept p cells last (raisesIn (answers s calls))
+
+pub calls-do : (s : List ℕ) (p : Problem) (cells : List Cell) → Stands s p cells → (calls : List Call) → CalledAll s p cells calls
+unfolding afterAll answers raisesIn
+calls-do s p cells h [] = record { last = cells; stands = h; kept = kept-all p cells }
+calls-do s p cells h (c ∷ more) =
+    let one = call-does s p cells h (length (c .table)) (c .budget) in
+    let rest = calls-do (after s c) p (one .next) (one .stands) more in
+    record { last = rest .last; stands = rest .stands; kept = kept-then (one .kept) (rest .kept) }

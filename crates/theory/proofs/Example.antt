@@ -1,0 +1,58 @@
+-- Not vacuous: sheet A, by its literal bytes, is accepted, and a list of calls on it, two of them refused, ends settled at 500.
+use Prim.Native.Nat.{ℕ, _<_, _≤_}
+use mathlib.Core.Path.{_≡_, refl}
+use mathlib.Core.Bool.{true}
+use mathlib.Core.Logic.{_⊎_, inl, inr}
+use mathlib.Core.List.{List, [], _∷_, map}
+use native.Mathlib.Omega.{arith}
+use borrow.Author.Tests.{ltb-true}
+use lib.Dec.{lit<, ltb}
+use lib.ListN.{length, getD, replicate, List·getD-eq-default}
+use Rattle.model.specs.Tests.{every, every-true}
+use Rattle.model.specs.Problem.{valueOf}
+use Rattle.model.specs.Read.{problemOf, cellsOf}
+use Rattle.model.specs.Report.{computing, numbers}
+use Rattle.model.specs.Calls.{Call, afterAll, answers}
+use Rattle.model.specs.Demand3.{Accepted, Best, Demand3}
+use Rattle.model.specs.Rows.{sheetA, largest}
+use Rattle.layout.specs.Shape.{Bytes}
+use Rattle.theory.proofs.Basics.{lt-or-le}
+use Rattle.theory.proofs.Demand.{demand3}
+
+-- budget 2, then a table that is too short, then budget 0, then the largest
+abbrev pub callsA : List Call
+callsA =
+    record { table = replicate 1024 7; budget = 2 }
+    ∷ record { table = []; budget = 2 }
+    ∷ record { table = replicate 1100 0; budget = 0 }
+    ∷ record { table = replicate 1024 0; budget = largest }
+    ∷ []
+
+-- what they answer: stopped, refused 1, refused 9, settled
+pub answers-A : map numbers (answers sheetA callsA) ≡ (102 ∷ 200 ∷ 2 ∷ 2 ∷ []) ∷ (1 ∷ 0 ∷ 0 ∷ 0 ∷ []) ∷ (9 ∷ 0 ∷ 0 ∷ 0 ∷ []) ∷ (100 ∷ 500 ∷ 2 ∷ 1 ∷ []) ∷ []
+unfolding computing answers
+answers-A = refl
+
+-- bytes, by a computed test
+tested : (s : List ℕ) → every (length s) (λ i. ltb (getD s i 0) 256) ≡ true → Bytes s
+tested s h i = go (lt-or-le i (length s))
+  where
+    go : (i < length s) ⊎ (length s ≤ i) → getD s i 0 < 256
+    go (inl l) = ltb-true _ _ (every-true (length s) _ h i l)
+    go (inr le) = rw (List·getD-eq-default s 0 {n = i} le) (omega arith)
+
+pub accepted-A : Accepted sheetA
+unfolding computing
+accepted-A = record { bytes = tested sheetA refl; yes = refl }
+
+pub demand-A : Demand3 sheetA callsA
+demand-A = demand3 sheetA accepted-A callsA
+
+-- the last part of demand 3 speaks: the start is settled below the ceiling, at 500
+pub price-A : valueOf (cellsOf (afterAll sheetA callsA)) 0 ≡ 500
+unfolding computing afterAll
+price-A = refl
+
+pub best-A : Best (problemOf sheetA) (cellsOf (afterAll sheetA callsA))
+unfolding computing afterAll
+best-A = demand-A .best refl (lit< tt)

@@ -1,0 +1,155 @@
+-- One law for each way through a turn of the procedure's loops: what the code's proofs cite. Fuel drops out.
+use Prim.Native.Nat.{ℕ, zero, suc, _+_, _-_, _<_, _≤_}
+use mathlib.Core.Path.{_≡_, refl, ap, _∙_, fun-ext}
+use mathlib.Core.Bool.{true, false}
+use mathlib.Core.List.{List, [], _∷_}
+use native.Mathlib.Omega.{arith}
+use borrow.Author.Tests.{lt-ltb, le-ltb}
+use lib.ListN.{length, getD, drop}
+use lib.Seq.{drop-cons, drop-length}
+use Rattle.model.specs.Problem.{Action, Node, terminal, decision, Problem, states, nodeAt, actionAt, _∈_, here, there}
+use Rattle.model.specs.QValue.{least}
+use Rattle.model.specs.Ldfs.{Search, Visit, success, failure, halt, valueAt, solvedAt, priceAt, onTest, onVisit, stored, raised, marked, update, ifDear, visitAll, tryOne, tryAll, visitOpen, visit, Passes, onPass, passes}
+use Rattle.theory.specs.Consistent.{WellFormed}
+
+-- An update: the same value or a smaller one, a raise, a halt.
+module _ (budget s x : ℕ) (next : Search → Visit) (w : Search) where
+  pub update-stores : x ≤ valueAt w s → update budget s x next w ≡ next (stored s x w)
+  unfolding update onTest
+  update-stores h = rw (le-ltb (valueAt w s) x h)
+
+  pub update-raises : valueAt w s < x → w .raises < budget → update budget s x next w ≡ next (raised s x w)
+  unfolding update onTest
+  update-raises h g = rw (lt-ltb (valueAt w s) x h, lt-ltb (w .raises) budget g)
+
+  pub update-halts : valueAt w s < x → budget ≤ w .raises → update budget s x next w ≡ halt w
+  unfolding update onTest
+  update-halts h g = rw (lt-ltb (valueAt w s) x h, le-ltb (w .raises) budget g)
+
+module _ (p : Problem) (budget : ℕ) (v : ℕ → Search → Visit) (s : ℕ) where
+  -- the successors from number j on
+  abbrev pub successorsFrom : Action → ℕ → Search → Visit
+  successorsFrom a j = visitAll p budget v s a (drop j (a .successors))
+
+  module _ (a : Action) (j : ℕ) (w w′ : Search) (lt : j < length (a .successors)) where
+    turn : successorsFrom a j w ≡ visitAll p budget v s a (getD (a .successors) j 0 ∷ drop (suc j) (a .successors)) w
+    turn = ap (λ (ts : List ℕ). visitAll p budget v s a ts w) (drop-cons (a .successors) j 0 lt)
+
+    pub successor-halts : v (getD (a .successors) j 0) w ≡ halt w′ → successorsFrom a j w ≡ halt w′
+    unfolding visitAll onVisit
+    successor-halts e = turn ∙ (rw e)
+
+    pub successor-fails : v (getD (a .successors) j 0) w ≡ failure w′ → successorsFrom a j w ≡ failure w′
+    unfolding visitAll onVisit
+    successor-fails e = turn ∙ (rw e)
+
+    pub successor-dear : v (getD (a .successors) j 0) w ≡ success w′ → valueAt w′ s < priceAt p w′ a → successorsFrom a j w ≡ failure w′
+    unfolding visitAll onVisit ifDear onTest
+    successor-dear e h = turn ∙ (rw (e, lt-ltb (valueAt w′ s) (priceAt p w′ a) h))
+
+    pub successor-passes : v (getD (a .successors) j 0) w ≡ success w′ → priceAt p w′ a ≤ valueAt w′ s → successorsFrom a j w ≡ successorsFrom a (suc j) w′
+    unfolding visitAll onVisit ifDear onTest
+    successor-passes e h = turn ∙ (rw (e, le-ltb (valueAt w′ s) (priceAt p w′ a) h))
+
+  pub successors-end : (a : Action) (w : Search) → successorsFrom a (length (a .successors)) w ≡ success w
+  unfolding visitAll
+  successors-end a w = rw (drop-length (a .successors))
+
+  -- the actions from number i on
+  abbrev pub actionsFrom : List Action → ℕ → Search → Visit
+  actionsFrom acts i = tryAll p budget v s acts (length acts - i) i
+
+  module _ (acts : List Action) (i : ℕ) (w w′ : Search) (lt : i < length acts) where
+    left : length acts - i ≡ suc (length acts - suc i)
+    left = omega arith
+
+    pub action-skipped : valueAt w s < priceAt p w (actionAt acts i) → actionsFrom acts i w ≡ actionsFrom acts (suc i) w
+    unfolding tryAll ifDear onTest
+    action-skipped h = rw (left, lt-ltb (valueAt w s) (priceAt p w (actionAt acts i)) h)
+
+    module _ (le : priceAt p w (actionAt acts i) ≤ valueAt w s) where
+      pub action-passes : successorsFrom (actionAt acts i) 0 w ≡ success w′ → actionsFrom acts i w ≡ success (marked s i w′)
+      unfolding tryAll tryOne ifDear onTest onVisit
+      action-passes e = rw (left, le-ltb (valueAt w s) (priceAt p w (actionAt acts i)) le, e)
+
+      pub action-fails : successorsFrom (actionAt acts i) 0 w ≡ failure w′ → actionsFrom acts i w ≡ actionsFrom acts (suc i) w′
+      unfolding tryAll tryOne ifDear onTest onVisit
+      action-fails e = rw (left, le-ltb (valueAt w s) (priceAt p w (actionAt acts i)) le, e)
+
+      pub action-halts : successorsFrom (actionAt acts i) 0 w ≡ halt w′ → actionsFrom acts i w ≡ halt w′
+      unfolding tryAll tryOne ifDear onTest onVisit
+      action-halts e = rw (left, le-ltb (valueAt w s) (priceAt p w (actionAt acts i)) le, e)
+
+  pub actions-end : (acts : List Action) (w : Search) → actionsFrom acts (length acts) w ≡ update budget s (least (priceAt p w) acts) failure w
+  unfolding tryAll
+  actions-end acts w = let z : length acts - length acts ≡ 0 = omega arith in rw z
+
+-- A visit does not depend on its fuel, where that is enough.
+module _ (p : Problem) (budget : ℕ) where
+  visitAll-same : (v v′ : ℕ → Search → Visit) (s : ℕ) (a : Action) (ts : List ℕ) → ((t : ℕ) (w : Search) → t ∈ ts → v t w ≡ v′ t w) → (w : Search) → visitAll p budget v s a ts w ≡ visitAll p budget v′ s a ts w
+  unfolding visitAll
+  visitAll-same v v′ s a [] h w = refl
+  visitAll-same v v′ s a (t ∷ ts) h w = rw (h t w here, fun-ext (visitAll-same v v′ s a ts (λ u w′ m. h u w′ (there m))))
+
+  module _ (v v′ : ℕ → Search → Visit) (s : ℕ) (acts : List Action) (h : (i t : ℕ) (w : Search) → t ∈ actionAt acts i .successors → v t w ≡ v′ t w) where
+    tryOne-same : (i : ℕ) (next : Search → Visit) (w : Search) → tryOne p budget v s acts i next w ≡ tryOne p budget v′ s acts i next w
+    unfolding tryOne
+    tryOne-same i next w = rw (visitAll-same v v′ s (actionAt acts i) (actionAt acts i .successors) (h i) w)
+
+    tryAll-same : (n i : ℕ) (w : Search) → tryAll p budget v s acts n i w ≡ tryAll p budget v′ s acts n i w
+    unfolding tryAll
+    tryAll-same zero i w = refl
+    tryAll-same (suc n) i w = rw (fun-ext (tryAll-same n (suc i)), fun-ext (tryOne-same i (tryAll p budget v′ s acts n (suc i))))
+
+  module _ (wf : WellFormed p) where
+    visitOpen-same : (v v′ : ℕ → Search → Visit) (s : ℕ) → ((t : ℕ) (w : Search) → s < t → t < states p → v t w ≡ v′ t w) → (n : Node) → nodeAt p s ≡ n → (w : Search) → visitOpen p budget v s n w ≡ visitOpen p budget v′ s n w
+    unfolding visitOpen
+    visitOpen-same v v′ s h (terminal cost) e w = refl
+    visitOpen-same v v′ s h (decision acts) e w = tryAll-same v v′ s acts (λ i t w′ m. let f = wf .forward s i t acts e m in h t w′ (f .0) (f .1)) (length acts) 0 w
+
+    any-fuel : (k m s : ℕ) → states p ≤ s + k → states p ≤ s + m → s < states p → (w : Search) → visit p budget k s w ≡ visit p budget m s w
+    unfolding visit
+    any-fuel zero m s h g lt w = absurd (omega arith)
+    any-fuel (suc k) zero s h g lt w = absurd (omega arith)
+    any-fuel (suc k) (suc m) s h g lt w = rw (fun-ext (visitOpen-same (visit p budget k) (visit p budget m) s (λ t w′ l tn. any-fuel k m t (omega arith) (omega arith) tn w′) (nodeAt p s) refl))
+
+    -- a visit with fuel enough, which hands itself to its loops
+    abbrev pub visitTo : ℕ → Search → Visit
+    visitTo = visit p budget (states p)
+
+    module _ (s : ℕ) (w : Search) (state : s < states p) where
+      unfolded : visitTo s w ≡ onTest (solvedAt w s) success (visitOpen p budget visitTo s (nodeAt p s)) w
+      unfolding visit
+      unfolded = any-fuel (states p) (suc (states p)) s (omega arith) (omega arith) state w
+
+      pub visit-solved : solvedAt w s ≡ true → visitTo s w ≡ success w
+      unfolding onTest
+      visit-solved e = unfolded ∙ (rw e)
+
+      pub visit-terminal : (cost : ℕ) → solvedAt w s ≡ false → nodeAt p s ≡ terminal cost → visitTo s w ≡ update budget s cost (λ w′. success (marked s 0 w′)) w
+      unfolding visitOpen onTest
+      visit-terminal cost e n = unfolded ∙ (rw (e, n))
+
+      pub visit-decision : (acts : List Action) → solvedAt w s ≡ false → nodeAt p s ≡ decision acts → visitTo s w ≡ actionsFrom p budget visitTo s acts 0 w
+      unfolding visitOpen onTest
+      visit-decision acts e n = unfolded ∙ (let z : length acts - 0 ≡ length acts = omega arith in rw (e, n, z))
+
+-- Passes, when n have been begun; n is at most the raises made, and so at most the budget.
+abbrev pub passesFrom : Problem → ℕ → ℕ → Search → Passes
+passesFrom p budget n w = passes p budget (suc budget - n) n w
+
+module _ (p : Problem) (budget n : ℕ) (w w′ : Search) (le : n ≤ budget) where
+  more : suc budget - n ≡ suc (suc budget - suc n)
+  more = omega arith
+
+  pub pass-succeeds : visit p budget (states p) (p .start) w ≡ success w′ → passesFrom p budget n w ≡ record { begun = suc n; ended = success w′ }
+  unfolding passes onPass
+  pass-succeeds e = rw (more, e)
+
+  pub pass-halts : visit p budget (states p) (p .start) w ≡ halt w′ → passesFrom p budget n w ≡ record { begun = suc n; ended = halt w′ }
+  unfolding passes onPass
+  pass-halts e = rw (more, e)
+
+  pub pass-fails : visit p budget (states p) (p .start) w ≡ failure w′ → passesFrom p budget n w ≡ passesFrom p budget (suc n) w′
+  unfolding passes onPass
+  pass-fails e = rw (more, e)
