@@ -1,7 +1,9 @@
 -- Questions put to a sheet, in document 01's order and words. The refusal is the number of the first whose answer is no.
 use Prim.Native.Nat.{ℕ, suc}
-use mathlib.Core.Bool.{Bool, true}
+use mathlib.Core.Path.{_≡_, refl}
+use mathlib.Core.Bool.{Bool, true, false}
 use mathlib.Core.List.{List, [], _∷_, _++_}
+use native.Mathlib.Omega.{arith}
 use lib.ListN.{length, getD, drop}
 use lib.Dec.{eqb, leb, ltb}
 use Rattle.model.specs.Tests.{fork, also, all, every}
@@ -120,6 +122,10 @@ unfoldable pub firstNo : ℕ → List Question → ℕ
 firstNo n [] = 0
 firstNo n (ask ∷ more) = fork (ask tt) (λ _. firstNo (suc n) more) (λ _. n)
 
+-- the refusal of a sheet with a table of so many entries, by questions 1 to 8; 0 where there is none
+unfoldable pub sheetRefusal : List ℕ → ℕ → ℕ
+sheetRefusal s entries = firstNo 1 ((λ _. question1 entries) ∷ sheetQuestions s)
+
 -- the refusal of a call on a sheet, with a table of so many entries and a budget; 0 where there is none
 unfoldable pub refusal : List ℕ → ℕ → ℕ → ℕ
 refusal s entries budget = firstNo 1 ((λ _. question1 entries) ∷ sheetQuestions s ++ ((λ _. question9 budget) ∷ []))
@@ -127,3 +133,22 @@ refusal s entries budget = firstNo 1 ((λ _. question1 entries) ∷ sheetQuestio
 -- an accepted sheet, in demand 3's sense: a yes to every question but those on the table and the budget
 unfoldable pub accepted : List ℕ → Bool
 accepted s = eqb (firstNo 2 (sheetQuestions s)) 0
+
+-- Every question of a list is answered yes: then, and only then, there is no first no.
+abbrev pub AllYes : List Question → Type 0
+AllYes [] = Unit {0}
+AllYes (ask ∷ more) = (ask tt ≡ true) × AllYes more
+
+pub none-no : (n : ℕ) (asked : List Question) → firstNo (suc n) asked ≡ 0 → AllYes asked
+unfolding firstNo
+none-no n [] h = tt
+none-no n (ask ∷ more) h = go (ask tt) refl (none-no (suc n) more)
+  where
+    go : (b : Bool) → ask tt ≡ b → (firstNo (suc (suc n)) more ≡ 0 → AllYes more) → (ask tt ≡ true) × AllYes more
+    go true e ih = (e, ih (rw e at h))
+    go false e ih = let z : suc n ≡ 0 = rw e at h in absurd (omega arith)
+
+pub all-yes : (n : ℕ) (asked : List Question) → AllYes asked → firstNo n asked ≡ 0
+unfolding firstNo
+all-yes n [] h = refl
+all-yes n (ask ∷ more) h = rw (h .0) (all-yes (suc n) more (h .1))

@@ -13,7 +13,7 @@ use Rattle.model.specs.Problem.{Problem, Cell, cellOf, solved}
 use Rattle.model.specs.Format.{be16, be32, successorsBytes, actionsBytes, nodeBytes, nodesBytes, kindByte, write, actionsSize, nodeSize, offsetsFrom}
 use Rattle.model.specs.Read.{actionFits, successorsRead, actionRead, actionsGood, actionsRead, actionsLong, terminalFits, headerFits, decisionFits, nodesGood, nodesRead, cellsRead, kindOf, problemOf, cellsOf}
 use Rattle.model.specs.QValue.{ceiling, join, joined, leastFrom, least}
-use Rattle.model.specs.Questions.{question1, question2, question3, question4, costsInRange, chosenInRange, cellInRange, question5, ascending, successorsInOrder, question6, valueUnder, question7, allSolved, passedBy, markEarned, question8, question9, firstNo, refusal, accepted}
+use Rattle.model.specs.Questions.{question1, question2, question3, question4, costsInRange, chosenInRange, cellInRange, question5, ascending, successorsInOrder, question6, valueUnder, question7, allSolved, passedBy, markEarned, question8, question9, firstNo, sheetRefusal, refusal, accepted}
 use Rattle.model.specs.Ldfs.{onTest, onVisit, update, ifDear, visitAll, tryOne, tryAll, visitOpen, visit, Passes, onPass, passes, searchOf, work}
 
 -- document 01's number for each outcome: a refusal's own, and 100, 101, 102
@@ -78,11 +78,15 @@ refusedTable t zero = t
 refusedTable t (suc zero) = t
 refusedTable t (suc (suc n)) = replicate (length t) 0
 
+-- the table's content once questions 1 to 8 have been put
+unfoldable pub checkedTable : List ℕ → List ℕ → List ℕ
+checkedTable s t = onRefusal (sheetRefusal s (length t)) (λ _. indexTable (problemOf s) (length t)) (refusedTable t)
+
 -- the table's content after the call
 unfoldable pub tableAfter : List ℕ → List ℕ → ℕ → List ℕ
 tableAfter s t budget = onRefusal (refusal s (length t) budget) (λ _. indexTable (problemOf s) (length t)) (refusedTable t)
 
 -- What computes: whoever names this on an `unfolding` line unfolds all that the three need at a literal sheet.
 unfoldable pub computing : Unit {0}
-unfolding also all every be16 be32 successorsBytes actionsBytes nodeBytes nodesBytes kindByte write actionsSize nodeSize offsetsFrom actionFits successorsRead actionRead actionsGood actionsRead actionsLong terminalFits headerFits decisionFits nodesGood nodesRead cellsRead kindOf problemOf cellsOf ceiling join joined leastFrom least question1 question2 question3 question4 costsInRange chosenInRange cellInRange question5 ascending successorsInOrder question6 valueUnder question7 allSolved passedBy markEarned question8 question9 firstNo refusal accepted onTest onVisit update ifDear visitAll tryOne tryAll visitOpen visit onPass passes work outcomeOf onRefusal answerTo report bytesAfter indexTable refusedTable tableAfter
+unfolding also all every be16 be32 successorsBytes actionsBytes nodeBytes nodesBytes kindByte write actionsSize nodeSize offsetsFrom actionFits successorsRead actionRead actionsGood actionsRead actionsLong terminalFits headerFits decisionFits nodesGood nodesRead cellsRead kindOf problemOf cellsOf ceiling join joined leastFrom least question1 question2 question3 question4 costsInRange chosenInRange cellInRange question5 ascending successorsInOrder question6 valueUnder question7 allSolved passedBy markEarned question8 question9 firstNo sheetRefusal refusal accepted onTest onVisit update ifDear visitAll tryOne tryAll visitOpen visit onPass passes work outcomeOf onRefusal answerTo report bytesAfter indexTable refusedTable checkedTable tableAfter
 computing = tt

@@ -1,6 +1,6 @@
 -- Tests that compute, with what it means that they hold.
 use Prim.Native.Nat.{ℕ, zero, suc, _<_, _≤_}
-use mathlib.Core.Path.{_≡_, refl}
+use mathlib.Core.Path.{_≡_, refl, sym, _∙_}
 use mathlib.Core.Logic.{⊎-elim}
 use mathlib.Core.Bool.{Bool, true, false}
 use mathlib.Core.List.{List, [], _∷_}
@@ -68,3 +68,10 @@ pub true-every : (n : ℕ) (f : ℕ → Bool) → ((i : ℕ) → i < n → f i �
 unfolding every
 true-every zero f h = refl
 true-every (suc n) f h = true-also (every n f) (λ _. f n) (true-every n f (λ i l. h i (omega arith))) (h n (omega arith))
+
+pub every-false : (n : ℕ) (f : ℕ → Bool) (i : ℕ) → i < n → f i ≡ false → every n f ≡ false
+every-false n f i lt h = go (every n f) refl
+  where
+    go : (b : Bool) → every n f ≡ b → b ≡ false
+    go true e = sym (every-true n f e i lt) ∙ h
+    go false e = refl

@@ -14,4 +14,3 @@ pub mod Promises
 pub mod Demand
 pub mod Example
 pub mod Turns
-pub mod Pricing

@@ -1,38 +1,18 @@
 -- Bytes of an accepted sheet: the problem and the cells that they stand for, and the refusals that are left.
-use Prim.Native.Nat.{ℕ, suc}
-use mathlib.Core.Path.{_≡_, refl}
-use mathlib.Core.Bool.{Bool, true, false}
-use mathlib.Core.List.{List, [], _∷_}
-use native.Mathlib.Omega.{arith}
+use Prim.Native.Nat.{ℕ}
+use mathlib.Core.Path.{_≡_}
+use mathlib.Core.Bool.{true}
+use mathlib.Core.List.{List}
 use borrow.Author.Tests.{eq-eqb, eqb-true}
 use Rattle.model.specs.Tests.{fork}
 use Rattle.model.specs.Problem.{Problem, Cell}
 use Rattle.model.specs.Format.{write}
 use Rattle.model.specs.Read.{problemOf, cellsOf}
-use Rattle.model.specs.Questions.{question1, question2, question9, Question, sheetQuestions, firstNo, refusal, accepted}
+use Rattle.model.specs.Questions.{question1, question2, question9, sheetQuestions, firstNo, refusal, accepted, AllYes, none-no, all-yes}
 use Rattle.layout.specs.Shape.{Bytes}
 use Rattle.layout.proofs.Same.{read-writes, read-shaped}
 use Rattle.layout.proofs.Back.{problem-back, cells-back, head-good, body-good}
 use Rattle.theory.specs.Asked.{Asked}
-
--- Every question of a list is answered yes.
-abbrev AllYes : List Question → Type 0
-AllYes [] = Unit {0}
-AllYes (ask ∷ more) = (ask tt ≡ true) × AllYes more
-
-none-no : (n : ℕ) (asked : List Question) → firstNo (suc n) asked ≡ 0 → AllYes asked
-unfolding firstNo
-none-no n [] h = tt
-none-no n (ask ∷ more) h = go (ask tt) refl (none-no (suc n) more)
-  where
-    go : (b : Bool) → ask tt ≡ b → (firstNo (suc (suc n)) more ≡ 0 → AllYes more) → (ask tt ≡ true) × AllYes more
-    go true e ih = (e, ih (rw e at h))
-    go false e ih = let z : suc n ≡ 0 = rw e at h in absurd (omega arith)
-
-all-yes : (n : ℕ) (asked : List Question) → AllYes asked → firstNo n asked ≡ 0
-unfolding firstNo
-all-yes n [] h = refl
-all-yes n (ask ∷ more) h = rw (h .0) (all-yes (suc n) more (h .1))
 
 -- s is written from a problem and cells that get a yes to questions 3 to 8, and has a length that gets a yes to question 2
 pub record Stands (s : List ℕ) (p : Problem) (cells : List Cell) : Type 0 where

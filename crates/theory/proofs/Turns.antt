@@ -107,7 +107,7 @@ module _ (p : Problem) (budget : ℕ) where
     visitOpen-same v v′ s h (terminal cost) e w = refl
     visitOpen-same v v′ s h (decision acts) e w = tryAll-same v v′ s acts (λ i t w′ m. let f = wf .forward s i t acts e m in h t w′ (f .0) (f .1)) (length acts) 0 w
 
-    any-fuel : (k m s : ℕ) → states p ≤ s + k → states p ≤ s + m → s < states p → (w : Search) → visit p budget k s w ≡ visit p budget m s w
+    pub any-fuel : (k m s : ℕ) → states p ≤ s + k → states p ≤ s + m → s < states p → (w : Search) → visit p budget k s w ≡ visit p budget m s w
     unfolding visit
     any-fuel zero m s h g lt w = absurd (omega arith)
     any-fuel (suc k) zero s h g lt w = absurd (omega arith)

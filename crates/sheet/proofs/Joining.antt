@@ -1,11 +1,12 @@
 -- Pricing as loops do it: with what has been joined so far, or the least so far, in hand.
-use Prim.Native.Nat.{ℕ, suc, _<_, _≤_, min}
-use mathlib.Core.Path.{_≡_, sym}
+use Prim.Native.Nat.{ℕ, zero, suc, _+_, _<_, _≤_, min, max}
+use mathlib.Core.Path.{_≡_, refl, sym}
 use mathlib.Core.List.{List, [], _∷_}
 use native.Mathlib.Omega.{arith}
 use lib.ListN.{length, getD, drop}
 use lib.Seq.{drop-cons, drop-length}
 use Rattle.model.specs.Problem.{Kind, worst, whole, Action, action, actionAt}
+use Rattle.model.specs.Read.{kindOf}
 use Rattle.model.specs.QValue.{join, joined, leastFrom, least}
 
 join-assoc : (k : Kind) (a b c : ℕ) → join k a (join k b c) ≡ join k (join k a b) c
@@ -17,6 +18,17 @@ join-zero : (k : Kind) (a : ℕ) → (join k a 0 ≡ a) × (join k 0 a ≡ a)
 unfolding join
 join-zero worst a = omega arith
 join-zero whole a = omega arith
+
+-- by the byte of the kind
+pub join-worst : (b x y : ℕ) → b ≡ 0 → join (kindOf b) x y ≡ max x y
+unfolding join kindOf
+join-worst zero x y e = refl
+join-worst (suc b) x y e = absurd (omega arith)
+
+pub join-whole : (b x y : ℕ) → (b ≡ 0 → ⊥) → join (kindOf b) x y ≡ x + y
+unfolding join kindOf
+join-whole zero x y ne = absurd (ne refl)
+join-whole (suc b) x y ne = refl
 
 module _ (k : Kind) (v : ℕ → ℕ) (ts : List ℕ) where
   -- x joins the values before number j

@@ -1,0 +1,4 @@
+pub mod Actions
+pub mod Passing
+pub mod Trying
+pub mod Updates

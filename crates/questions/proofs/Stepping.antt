@@ -1,0 +1,210 @@
+-- A test of every state, of every action of a decision or of every successor of an action, one at a time.
+use Prim.Native.Nat.{ℕ, zero, suc, _+_, _*_, _<_, _≤_}
+use mathlib.Core.Path.{_≡_, refl, sym, _∙_}
+use mathlib.Core.Bool.{Bool, true, false}
+use mathlib.Core.List.{List, [], _∷_}
+use native.Mathlib.Omega.{arith}
+use native.Mathlib.Numerals.{add-one}
+use borrow.Author.Tests.{le-leb, lt-leb, lt-ltb, le-ltb, ltb-true, eqb-true, eqb-false}
+use lib.Dec.{leb, eqb}
+use lib.ListN.{length, getD, drop, drop-of-length-le}
+use lib.Seq.{drop-cons}
+use Rattle.model.specs.Tests.{also, all, every, also-true, true-also, all-true, every-true, every-false}
+use Rattle.model.specs.Problem.{Node, terminal, decision, Problem, Cell, states, nodeAt, actionAt, cellOf, valueOf, solved}
+use Rattle.model.specs.Format.{terminalTag, decisionTag, actionTag, tagOf, actionsOf, actionOffset}
+use Rattle.model.specs.Read.{actionFits, actionRead, kindOf, problemOf, cellsOf}
+use Rattle.model.specs.QValue.{q}
+use Rattle.model.specs.Questions.{costsInRange, ascending, successorsInOrder, question6, valueUnder, allSolved, passedBy, markEarned}
+use Rattle.sheet.specs.Sheet.{Sheet, Within, Terminal, Decision, Priced, costOf}
+use Rattle.sheet.proofs.Laws.{actionsAt, is-terminal, is-decision, few-actions, action-stands, action-ends, action-is, action-in-place, action-priced, action-after}
+use Rattle.questions.specs.Put.{countInRange, Ordered}
+
+-- every: one more that passes, all of them, one that does not
+pub every-more : (k : ℕ) (f : ℕ → Bool) → every k f ≡ true → f k ≡ true → every (k + 1) f ≡ true
+unfolding every
+every-more k f h g = rw add-one (true-also _ _ h g)
+
+-- b is the test of all of n
+module _ (n : ℕ) (f : ℕ → Bool) (b : Bool) (is : b ≡ every n f) where
+  pub all-stepped : (k : ℕ) → every k f ≡ true → k ≤ n → n ≤ k → true ≡ b
+  all-stepped k h le ge = let e : k ≡ n = omega arith in sym (is ∙ (rw e at h))
+
+  pub stepped-out : (k : ℕ) → k < n → f k ≡ false → false ≡ b
+  stepped-out k lt h = sym (is ∙ every-false n f k lt h)
+
+-- the test of action k of decision s: questions 5, 6 and 7
+abbrev pub costOfFits : Problem → ℕ → ℕ → Bool
+costOfFits p s k = all (leb 1 (actionAt (actionsAt p s) k .cost) ∷ leb (actionAt (actionsAt p s) k .cost) 1000000 ∷ [])
+
+abbrev pub orderOf : Problem → ℕ → ℕ → ℕ → Bool
+orderOf p n s k = ascending s n (actionAt (actionsAt p s) k .successors)
+
+abbrev pub priceOver : Problem → List Cell → ℕ → ℕ → Bool
+priceOver p cells s k = leb (valueOf cells s) (q (p .kind) (valueOf cells) (actionAt (actionsAt p s) k))
+
+-- the tests of one state, at a decision
+module _ (p : Problem) (s : ℕ) (tag : tagOf (nodeAt p s) ≡ decisionTag) where
+  node : nodeAt p s ≡ decision (actionsAt p s)
+  node = is-decision (nodeAt p s) tag
+
+  pub costs-are : costsInRange (nodeAt p s) ≡ every (length (actionsAt p s)) (costOfFits p s)
+  unfolding costsInRange actionsOf
+  costs-are = rw node
+
+  pub order-is : (n : ℕ) → successorsInOrder n s (nodeAt p s) ≡ every (length (actionsAt p s)) (orderOf p n s)
+  unfolding successorsInOrder actionsOf
+  order-is n = rw node
+
+  pub under-is : (cells : List Cell) → valueUnder p cells s (nodeAt p s) ≡ every (length (actionsAt p s)) (priceOver p cells s)
+  unfolding valueUnder actionsOf
+  under-is cells = rw node
+
+  pub earned-is : (cells : List Cell) → markEarned p cells s (nodeAt p s) ≡ passedBy p cells s (actionAt (actionsAt p s) (cellOf cells s .chosen))
+  unfolding markEarned actionsOf
+  earned-is cells = rw node
+
+-- successors in turn, from number j on
+module _ (ts : List ℕ) (j t : ℕ) (lt : j < length ts) (at : t ≡ getD ts j 0) where
+  rest : drop j ts ≡ t ∷ drop (j + 1) ts
+  rest = drop-cons ts j 0 lt ∙ rw (add-one, at)
+
+  module _ (last n : ℕ) where
+    pub ascends : last < t → t < n → ascending last n (drop j ts) ≡ ascending t n (drop (j + 1) ts)
+    unfolding ascending also all
+    ascends a b = rw (rest, lt-ltb last t a, lt-ltb t n b)
+
+    pub not-above : t ≤ last → false ≡ ascending last n (drop j ts)
+    unfolding ascending also all
+    not-above a = rw (rest, le-ltb last t a)
+
+    pub not-below : last < t → n ≤ t → false ≡ ascending last n (drop j ts)
+    unfolding ascending also all
+    not-below a b = rw (rest, lt-ltb last t a, le-ltb t n b)
+
+  module _ (cells : List Cell) where
+    pub solved-more : solved (cellOf cells t) ≡ true → allSolved cells (drop j ts) ≡ allSolved cells (drop (j + 1) ts)
+    unfolding allSolved also
+    solved-more h = rw (rest, h)
+
+    pub solved-not : solved (cellOf cells t) ≡ false → false ≡ allSolved cells (drop j ts)
+    unfolding allSolved also
+    solved-not h = rw (rest, h)
+
+pub ascending-end : (ts : List ℕ) (last n j : ℕ) → length ts ≤ j → ascending last n (drop j ts) ≡ true
+unfolding ascending
+ascending-end ts last n j le = rw (drop-of-length-le ts le)
+
+pub solved-end : (ts : List ℕ) (cells : List Cell) (j : ℕ) → length ts ≤ j → allSolved cells (drop j ts) ≡ true
+unfolding allSolved
+solved-end ts cells j le = rw (drop-of-length-le ts le)
+
+pub cost-low : (c : ℕ) → c < 1 → all (leb 1 c ∷ leb c 1000000 ∷ []) ≡ false
+unfolding all
+cost-low c h = rw (lt-leb 1 c h)
+
+pub cost-high : (c : ℕ) → 1 ≤ c → 1000000 < c → all (leb 1 c ∷ leb c 1000000 ∷ []) ≡ false
+unfolding all
+cost-high c g h = rw (le-leb 1 c g, lt-leb c 1000000 h)
+
+pub cost-fits : (c : ℕ) → 1 ≤ c → c ≤ 1000000 → all (leb 1 c ∷ leb c 1000000 ∷ []) ≡ true
+unfolding all
+cost-fits c g h = rw (le-leb 1 c g, le-leb c 1000000 h)
+
+-- question 6 gives that successors are states
+ascending-below : (low n : ℕ) (ts : List ℕ) → ascending low n ts ≡ true → (j : ℕ) → j < length ts → getD ts j 0 < n
+unfolding ascending
+ascending-below low n [] h j lt = absurd (omega arith)
+ascending-below low n (t ∷ ts) h zero lt = ltb-true _ _ (all-true _ (also-true _ _ h .0) .1 .0)
+ascending-below low n (t ∷ ts) h (suc j) lt = ascending-below t n ts (also-true _ _ h .1) j (omega arith)
+
+below : (p : Problem) (s : ℕ) → s < states p → tagOf (nodeAt p s) ≡ decisionTag → question6 p ≡ true → (k : ℕ) → k < length (actionsAt p s) →
+    (j : ℕ) → j < length (actionAt (actionsAt p s) k .successors) → getD (actionAt (actionsAt p s) k .successors) j 0 < states p
+unfolding question6
+below p s lt tag h k lk j lj = ascending-below s (states p) _ (every-true _ _ (sym (order-is p s tag (states p)) ∙ every-true (states p) _ h s lt) k lk) j lj
+
+-- A loop over the actions of decision i: action k stands at o.
+pub record Along (s : List ℕ) (i k o : ℕ) : Type 0 where
+  pub upto : k ≤ length (actionsAt (problemOf s) i)
+  pub at : o ≡ actionOffset (problemOf s) i k
+
+module _ {s t : List ℕ} {i : ℕ} (d : Decision s t i) where
+  h : Sheet s t (problemOf s) (cellsOf s)
+  h = d .within .sheet
+
+  pub few : length (actionsAt (problemOf s) i) ≤ 16
+  few = few-actions h i (d .within .below) (d .tag) .1
+
+  pub along-begins : (o : ℕ) → o ≡ actionOffset (problemOf s) i 0 → Along s i 0 o
+  along-begins o e = record { upto = omega arith; at = e }
+
+  module _ {k o : ℕ} (a : Along s i k o) where
+    pub along-stands : (b : Bool) → b ≡ eqb (getD s o 0) actionTag → b ≡ true → k < length (actionsAt (problemOf s) i)
+    along-stands b e g = action-stands h i (d .within .below) (d .tag) k o (a .at) (a .upto) (sym e ∙ g)
+
+    pub along-ends : (b : Bool) → b ≡ eqb (getD s o 0) actionTag → b ≡ false → length (actionsAt (problemOf s) i) ≤ k
+    along-ends b e g = action-ends h i (d .within .below) (d .tag) k o (a .at) (sym e ∙ g)
+
+    module _ (lk : k < length (actionsAt (problemOf s) i)) where
+      pub along-fits : actionFits (drop o s) ≡ true
+      along-fits = action-in-place h i (d .within .below) (d .tag) k o (a .at) lk
+
+      pub along-is : actionRead (drop o s) ≡ actionAt (actionsAt (problemOf s) i) k
+      along-is = action-is h i (d .within .below) (d .tag) k o (a .at) lk
+
+      pub along-next : (r : ℕ) → r ≡ o + 7 + 2 * length (actionRead (drop o s) .successors) → Along s i (k + 1) r
+      along-next r e = record { upto = omega arith; at = action-after h i (d .within .below) (d .tag) k o (a .at) lk r e }
+
+      -- in an ordered sheet its successors are states
+      pub along-priced : (kind : ℕ) → Ordered (problemOf s) kind → Priced s t o
+      along-priced kind ord = action-priced h i (d .within .below) (d .tag) k o (a .at) lk (below (problemOf s) i (d .within .below) (d .tag) (ord .six) k lk)
+
+  -- the count, from the test of all costs
+  pub counted-all : (k : ℕ) → every k (costOfFits (problemOf s) i) ≡ true → k ≤ length (actionsAt (problemOf s) i) → length (actionsAt (problemOf s) i) ≤ k → k ≡ countInRange (nodeAt (problemOf s) i)
+  unfolding countInRange
+  counted-all k g le ge = rw (sym (all-stepped _ _ _ (costs-are (problemOf s) i (d .tag)) k g le ge)) (omega arith)
+
+  pub counted-none : (k : ℕ) → k < length (actionsAt (problemOf s) i) → costOfFits (problemOf s) i k ≡ false → 0 ≡ countInRange (nodeAt (problemOf s) i)
+  unfolding countInRange
+  counted-none k lt g = rw (sym (stepped-out _ _ _ (costs-are (problemOf s) i (d .tag)) k lt g))
+
+-- a state by its tag
+module _ {s t : List ℕ} {i : ℕ} (w : Within s t i) (b : Bool) (e : b ≡ eqb (tagOf (nodeAt (problemOf s) i)) terminalTag) where
+  pub terminal-from : b ≡ true → Terminal s t i
+  terminal-from g = record { within = w; tag = eqb-true _ _ (sym e ∙ g) }
+
+  pub decision-from : b ≡ false → Decision s t i
+  unfolding tagOf
+  decision-from g = record { within = w; tag = other (nodeAt (problemOf s) i) (eqb-false _ _ (sym e ∙ g)) }
+    where
+      other : (n : Node) → (tagOf n ≡ terminalTag → ⊥) → tagOf n ≡ decisionTag
+      other (terminal cost) g = absurd (g refl)
+      other (decision acts) g = refl
+
+-- question 7 at a terminal, and of one action
+pub under-terminal : {s t : List ℕ} {i : ℕ} → Terminal s t i → leb (valueOf (cellsOf s) i) (costOf (nodeAt (problemOf s) i)) ≡ valueUnder (problemOf s) (cellsOf s) i (nodeAt (problemOf s) i)
+unfolding valueUnder costOf
+under-terminal {s} {t} {i} d = rw (is-terminal (nodeAt (problemOf s) i) (d .tag))
+
+module _ {s t : List ℕ} {i k o : ℕ} (d : Decision s t i) (a : Along s i k o) (lk : k < length (actionsAt (problemOf s) i)) {kind : ℕ} (ord : Ordered (problemOf s) kind) {value price : ℕ}
+    (v : value ≡ valueOf (cellsOf s) i) (x : price ≡ q (kindOf kind) (valueOf (cellsOf s)) (actionRead (drop o s))) where
+  priced : price ≡ q (problemOf s .kind) (valueOf (cellsOf s)) (actionAt (actionsAt (problemOf s) i) k)
+  priced = x ∙ rw (ord .same, along-is d a lk)
+
+  pub price-over : price < value → priceOver (problemOf s) (cellsOf s) i k ≡ false
+  price-over lt = lt-leb _ _ (rw (v, priced) at lt)
+
+  pub price-under : value ≤ price → priceOver (problemOf s) (cellsOf s) i k ≡ true
+  price-under le = le-leb _ _ (rw (v, priced) at le)
+
+-- question 6 at a terminal
+pub order-terminal : {s t : List ℕ} {i : ℕ} → Terminal s t i → (n : ℕ) → true ≡ successorsInOrder n i (nodeAt (problemOf s) i)
+unfolding successorsInOrder
+order-terminal {s} {t} {i} d n = rw (is-terminal (nodeAt (problemOf s) i) (d .tag))
+
+-- questions 6 and 7 of a decision
+module _ {s t : List ℕ} {i : ℕ} (d : Decision s t i) where
+  pub order-of : (n : ℕ) → successorsInOrder n i (nodeAt (problemOf s) i) ≡ every (length (actionsAt (problemOf s) i)) (orderOf (problemOf s) n i)
+  order-of n = order-is (problemOf s) i (d .tag) n
+
+  pub under-of : valueUnder (problemOf s) (cellsOf s) i (nodeAt (problemOf s) i) ≡ every (length (actionsAt (problemOf s) i)) (priceOver (problemOf s) (cellsOf s) i)
+  under-of = under-is (problemOf s) i (d .tag) (cellsOf s)

@@ -1,0 +1,48 @@
+-- Questions 5 to 8 of one state, and what each may suppose of the questions before it.
+use Prim.Native.Nat.{ℕ, _<_}
+use mathlib.Core.Path.{_≡_}
+use mathlib.Core.Bool.{Bool, true}
+use mathlib.Core.List.{List, [], _∷_}
+use lib.ListN.{length}
+use Rattle.model.specs.Tests.{fork, all}
+use Rattle.model.specs.Problem.{Node, Problem, Cell, states, nodeAt, cellOf, solved}
+use Rattle.model.specs.Format.{actionsOf}
+use Rattle.model.specs.Read.{kindOf}
+use Rattle.model.specs.Questions.{costsInRange, cellInRange, successorsInOrder, valueUnder, markEarned, question5, question6, question7, question8, firstNo}
+use Rattle.questions.specs.declared.states.Question.{Question}
+use Rattle.questions.specs.declared.states.Question.the-variants.{Ranges, Order, Bounds, Marks}
+
+-- question 5 of one state
+unfoldable pub rangesAt : Node → Cell → Bool
+rangesAt n c = all (costsInRange n ∷ cellInRange n c ∷ [])
+
+-- the number of a decision's actions, 0 where the cost of one is out of range
+unfoldable pub countInRange : Node → ℕ
+countInRange n = fork (costsInRange n) (λ _. length (actionsOf n)) (λ _. 0)
+
+-- question 6, answered yes, and the kind's byte
+pub record Ordered (p : Problem) (kind : ℕ) : Type 0 where
+  pub six : question6 p ≡ true
+  pub same : kindOf kind ≡ p .kind
+
+-- a decision's chosen action is one of its actions
+abbrev pub ChosenExists : Problem → List Cell → ℕ → Type 0
+ChosenExists p cells s = 0 < length (actionsOf (nodeAt p s)) → cellOf cells s .chosen < length (actionsOf (nodeAt p s))
+
+-- what a question may suppose
+abbrev pub Before : Question → Problem → List Cell → Type 0
+Before Ranges p cells = Unit {0}
+Before Order p cells = Unit {0}
+Before Bounds p cells = question6 p ≡ true
+Before Marks p cells = (question5 p cells ≡ true) × (question6 p ≡ true)
+
+-- a question of state s
+unfoldable pub passesAt : Question → Problem → List Cell → ℕ → Bool
+passesAt Ranges p cells s = rangesAt (nodeAt p s) (cellOf cells s)
+passesAt Order p cells s = successorsInOrder (states p) s (nodeAt p s)
+passesAt Bounds p cells s = valueUnder p cells s (nodeAt p s)
+passesAt Marks p cells s = fork (solved (cellOf cells s)) (λ _. markEarned p cells s (nodeAt p s)) (λ _. true)
+
+-- the number of the first of questions 5 to 8 whose answer is no, 0 where there is none
+unfoldable pub statesNo : Problem → List Cell → ℕ
+statesNo p cells = firstNo 5 ((λ _. question5 p cells) ∷ (λ _. question6 p) ∷ (λ _. question7 p cells) ∷ (λ _. question8 p cells) ∷ [])

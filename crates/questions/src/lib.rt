@@ -1,0 +1,134 @@
+// The questions of document 01 put to a sheet's bytes, and the index table.
+pub mod stages; // stages.rt: question 4
+pub mod states; // states.rt: questions 5 to 8
+
+ghost use mathlib.Core.Path.{_≡_};
+ghost use mathlib.Core.List.{List, _++_};
+ghost use Prim.Native.Nat.{ℕ, _-_, _<_, _≤_};
+ghost use lib.ListN.{length, drop, take, replicate};
+ghost use Rattle.model.specs.Problem.{states};
+ghost use Rattle.model.specs.Format.{offsetsFrom};
+ghost use Rattle.model.specs.Read.{kindOf, problemOf, cellsOf};
+ghost use Rattle.model.specs.Questions.{question3, sheetQuestions, firstNo, sheetRefusal};
+ghost use Rattle.model.specs.Report.{checkedTable};
+ghost use Rattle.sheet.specs.Sheet.{Within};
+ghost use Rattle.questions.specs.Put.{statesNo};
+ghost use Rattle.questions.specs.Verdicts.{verdict};
+use sheet::numbers::get16;
+use sheet::numbers::place;
+use stages::stages_in_place;
+use states::Question;
+use states::all_pass;
+
+// A sheet's answer to questions 1 to 8: accepted, or refused by the number of the first whose answer is no.
+pub enum Verdict {
+    Accepted,
+    Refused(u32),
+}
+
+// Question 3: does the sheet begin with a head whose kind is 0 or 1, stages 1 to 1,024, start below that number?
+pub fn head_in_place(s: &[u8]) -> bool
+    requires { ⌜ 8 ≤ length (now s) ⌝ }
+    ensures { λ r. ⌜ r ≡ question3 (now (s .entry)) ⌝ }
+{
+    if s[0] == 1 {
+        if get16(s, 1) == 5 {
+            if s[3] > 1 {
+                return false;
+            }
+            let n = get16(s, 4);
+            if n < 1 {
+                return false;
+            }
+            if n > 1024 {
+                return false;
+            }
+            get16(s, 6) < n
+        } else {
+            false
+        }
+    } else {
+        false
+    }
+}
+
+// Questions 5 to 8 of a sheet that is in place: the number of the first whose answer is no, 0 where there is none.
+pub fn states_no(sheet: &[u8], table: &[u32], kind: u8, n: usize) -> u32
+    requires { ⌜ (0 < n) × Within (now sheet) (now table) 0 ⌝ }
+    requires { ⌜ (n ≡ states (problemOf (now sheet))) × (kindOf kind ≡ problemOf (now sheet) .kind) ⌝ }
+    ensures { λ r. ⌜ r ≡ statesNo (problemOf (now (sheet .entry))) (cellsOf (now (sheet .entry))) ⌝ }
+{
+    if all_pass(sheet, table, kind, n, Question::Ranges) {
+        if all_pass(sheet, table, kind, n, Question::Order) {
+            if all_pass(sheet, table, kind, n, Question::Bounds) {
+                if all_pass(sheet, table, kind, n, Question::Marks) {
+                    0
+                } else {
+                    8
+                }
+            } else {
+                7
+            }
+        } else {
+            6
+        }
+    } else {
+        5
+    }
+}
+
+// Questions 2 to 8: the number of the first whose answer is no, 0 where there is none; then the table begins with the stages' offsets.
+pub fn first_no(sheet: &[u8], table: &mut [u32]) -> u32
+    requires { ⌜ 1024 ≤ length (now table) ⌝ }
+    ensures { λ r. ⌜ r ≡ firstNo 2 (sheetQuestions (now (sheet .entry))) ⌝ }
+    ensures { λ r. ⌜ (r ≡ 0 → now (table .exit) ≡ offsetsFrom 8 (problemOf (now (sheet .entry)) .nodes) ++ drop (states (problemOf (now (sheet .entry)))) (now (table .entry))) ⌝ }
+{
+    if sheet.len() < 20 {
+        return 2;
+    }
+    if sheet.len() > 60000 {
+        return 2;
+    }
+    if head_in_place(sheet) {
+        let n = place(get16(sheet, 4));
+        if stages_in_place(sheet, table, n) {
+            states_no(sheet, table, sheet[3], n)
+        } else {
+            4
+        }
+    } else {
+        3
+    }
+}
+
+// The entries of a table from `from` on become 0.
+pub fn clear(table: &mut [u32], from: usize)
+    requires { ⌜ from ≤ length (now table) ⌝ }
+    ensures { λ _. ⌜ now (table .exit) ≡ take from (now (table .entry)) ++ replicate (length (now (table .entry)) - from) 0 ⌝ }
+{
+    let mut i = from;
+    while i < table.len() {
+        table[i] = 0;
+        i += 1;
+    }
+}
+
+// Questions 1 to 8 put to any bytes, with any table. The table's later content is unchanged at 1, all zero at 2 to 8, and the stages' offsets and then
+// zeros when accepted.
+pub fn check(sheet: &[u8], table: &mut [u32]) -> Verdict
+    ensures answer { λ r. ⌜ r ≡ verdict (sheetRefusal (now (sheet .entry)) (length (now (table .entry)))) ⌝ }
+    ensures table { λ _. ⌜ now (table .exit) ≡ checkedTable (now (sheet .entry)) (now (table .entry)) ⌝ }
+{
+    if table.len() < 1024 {
+        return Verdict::Refused(1);
+    }
+    let n = first_no(sheet, table);
+    if n == 0 {
+        let states = place(get16(sheet, 4));
+        clear(table, states);
+        Verdict::Accepted
+    } else {
+        clear(table, 0);
+        Verdict::Refused(n)
+    }
+}

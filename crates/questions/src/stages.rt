@@ -1,0 +1,120 @@
+// Question 4: are the stages in place? The index table is filled on the way.
+ghost use mathlib.Core.Path.{_≡_};
+ghost use mathlib.Core.Bool.{Bool, true};
+ghost use mathlib.Core.List.{List, _++_};
+ghost use Prim.Native.Nat.{ℕ, _+_, _<_, _≤_};
+ghost use lib.ListN.{length, drop};
+ghost use Rattle.model.specs.Format.{be16, offsetsFrom};
+ghost use Rattle.model.specs.Read.{actionFits, terminalFits, headerFits, nodesGood, nodesRead};
+use sheet::numbers::byte_at;
+use sheet::numbers::narrow;
+
+// A byte's number as an offset is.
+pub fn small(x: u8) -> usize
+    ensures { λ r. ⌜ (r ≡ x) × (r < 256) ⌝ }
+{
+    x as usize
+}
+
+// The length of the content of the field at `at`, 0 where its bytes are not there.
+pub fn content_at(s: &[u8], at: usize) -> usize
+    requires { ⌜ at ≤ 60000 ⌝ }
+    ensures { λ r. ⌜ (r ≡ be16 (now (s .entry)) (at + 1)) × (r < 65536) ⌝ }
+{
+    small(byte_at(s, at + 1)) * 256 + small(byte_at(s, at + 2))
+}
+
+// Is an ending's field, whose tag has been read, all there?
+pub fn terminal_fits(s: &[u8], at: usize) -> bool
+    requires { ⌜ (at ≤ length (now s)) × (length (now s) ≤ 60000) ⌝ }
+    ensures { λ r. ⌜ r ≡ terminalFits (drop at (now (s .entry))) ⌝ }
+{
+    if content_at(s, at) == 9 {
+        at + 12 <= s.len()
+    } else {
+        false
+    }
+}
+
+// Is a junction's own field there, with a check behind it?
+pub fn header_fits(s: &[u8], at: usize) -> bool
+    requires { ⌜ (at ≤ length (now s)) × (length (now s) ≤ 60000) ⌝ }
+    ensures { λ r. ⌜ r ≡ headerFits (drop at (now (s .entry))) ⌝ }
+{
+    if byte_at(s, at) == 3 {
+        if content_at(s, at) == 6 {
+            if at + 9 <= s.len() {
+                byte_at(s, at + 9) == 4
+            } else {
+                false
+            }
+        } else {
+            false
+        }
+    } else {
+        false
+    }
+}
+
+// Has a check's field, whose tag has been read, a content of 6 to 36 bytes, even, all there?
+pub fn action_fits(s: &[u8], at: usize) -> bool
+    requires { ⌜ (at ≤ length (now s)) × (length (now s) ≤ 60000) ⌝ }
+    ensures { λ r. ⌜ r ≡ actionFits (drop at (now (s .entry))) ⌝ }
+{
+    let n = content_at(s, at);
+    if n < 6 {
+        return false;
+    }
+    if n > 36 {
+        return false;
+    }
+    if n % 2 == 0 {
+        at + 3 + n <= s.len()
+    } else {
+        false
+    }
+}
+
+// Question 4, of a sheet whose head says so many stages. The first field out of place ends the reading, whichever loop it stands in. Where there is
+// none, the table begins with the stages' offsets.
+pub fn stages_in_place(s: &[u8], table: &mut [u32], states: usize) -> bool
+    requires { ⌜ (states ≤ length (now table)) × (8 ≤ length (now s)) × (length (now s) ≤ 60000) ⌝ }
+    ensures { λ r. ⌜ r ≡ nodesGood states (drop 8 (now (s .entry))) ⌝ }
+    ensures { λ r. ⌜ (r ≡ true → now (table .exit) ≡ offsetsFrom 8 (nodesRead states (drop 8 (now (s .entry)))) ++ drop states (now (table .entry))) ⌝ }
+{
+    let mut at: usize = 8;
+    let mut i: usize = 0;
+    'stages: loop {
+        if i == states {
+            return at == s.len();
+        }
+        table[i] = narrow(at);
+        i += 1;
+        if byte_at(s, at) == 2 {
+            if terminal_fits(s, at) {
+                at += 12;
+                continue 'stages;
+            } else {
+                break 'stages;
+            }
+        }
+        if header_fits(s, at) {
+            at += 9;
+            let mut n: usize = 0;
+            while byte_at(s, at) == 4 {
+                if n == 16 {
+                    break 'stages;
+                }
+                n += 1;
+                if action_fits(s, at) {
+                    at += 3 + content_at(s, at);
+                } else {
+                    break 'stages;
+                }
+            }
+        } else {
+            break 'stages;
+        }
+    }
+    false
+}

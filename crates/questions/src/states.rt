@@ -1,0 +1,250 @@
+// Questions 5 to 8, put to each state of a sheet that is in place, one question after the other.
+ghost use mathlib.Core.Path.{_≡_};
+ghost use mathlib.Core.Bool.{Bool, true};
+ghost use mathlib.Core.List.{List};
+ghost use Prim.Native.Nat.{ℕ, _<_, _≤_};
+ghost use lib.ListN.{length, drop};
+ghost use Rattle.model.specs.Tests.{every};
+ghost use Rattle.model.specs.Problem.{nodeAt, cellOf, states};
+ghost use Rattle.model.specs.Format.{actionsOf, actionOffset};
+ghost use Rattle.model.specs.Read.{kindOf, problemOf, cellsOf, actionFits, actionRead};
+ghost use Rattle.model.specs.Questions.{ascending, successorsInOrder, valueUnder, allSolved, passedBy, markEarned, question6};
+ghost use Rattle.sheet.specs.Sheet.{Within, Decision, Priced};
+ghost use Rattle.questions.specs.Put.{rangesAt, countInRange, Ordered, ChosenExists, Before, passesAt};
+use sheet::fields::action_cost;
+use sheet::fields::action_here;
+use sheet::fields::chosen_at;
+use sheet::fields::first_action;
+use sheet::fields::is_terminal;
+use sheet::fields::mark_at;
+use sheet::fields::next_action;
+use sheet::fields::solved_at;
+use sheet::fields::successor;
+use sheet::fields::successor_count;
+use sheet::fields::terminal_cost;
+use sheet::fields::value_at;
+use sheet::numbers::place;
+use sheet::numbers::wide;
+use sheet::pricing::price;
+
+// Which question is put to a state.
+pub enum Question {
+    // 5: costs, values, marks and chosen checks in range
+    Ranges,
+    // 6: findings in order
+    Order,
+    // 7: values at most costs and prices
+    Bounds,
+    // 8: marks earned
+    Marks,
+}
+
+// The number of a decision's actions, 0 where the cost of one is out of range.
+pub fn count_in_range(sheet: &[u8], table: &[u32], state: usize) -> usize
+    requires { ⌜ Decision (now sheet) (now table) state ⌝ }
+    ensures { λ r. ⌜ (r ≡ countInRange (nodeAt (problemOf (now (sheet .entry))) state)) × (r ≤ 16) ⌝ }
+{
+    let mut at: usize = first_action(sheet, table, state);
+    let mut n: usize = 0;
+    while action_here(sheet, at) {
+        let cost = action_cost(sheet, at);
+        if cost < 1 {
+            return 0;
+        }
+        if cost > 1000000 {
+            return 0;
+        }
+        at = next_action(sheet, at);
+        n += 1;
+    }
+    n
+}
+
+// Question 5 of one state.
+pub fn in_range(sheet: &[u8], table: &[u32], state: usize) -> bool
+    requires { ⌜ Within (now sheet) (now table) state ⌝ }
+    ensures { λ r. ⌜ r ≡ rangesAt (nodeAt (problemOf (now (sheet .entry))) state) (cellOf (cellsOf (now (sheet .entry))) state) ⌝ }
+{
+    if value_at(sheet, table, state) > 1000000000 {
+        return false;
+    }
+    let mark = mark_at(sheet, table, state);
+    if mark > 1 {
+        return false;
+    }
+    if is_terminal(sheet, table, state) {
+        return terminal_cost(sheet, table, state) <= 1000000;
+    }
+    let n = count_in_range(sheet, table, state);
+    if n == 0 {
+        return false;
+    }
+    let chosen = place(wide(chosen_at(sheet, table, state)));
+    if mark == 1 { chosen < n } else { chosen == 0 }
+}
+
+// Are the successors of the action at `at` strictly ascending, above `low` and below `n`?
+pub fn ascending_at(sheet: &[u8], at: usize, low: usize, n: usize) -> bool
+    requires { ⌜ actionFits (drop at (now sheet)) ≡ true ⌝ }
+    ensures { λ r. ⌜ r ≡ ascending low n (actionRead (drop at (now (sheet .entry))) .successors) ⌝ }
+{
+    let m = successor_count(sheet, at);
+    let mut last = low;
+    let mut j: usize = 0;
+    while j < m {
+        let t = successor(sheet, at, j);
+        if t <= last {
+            return false;
+        }
+        if t >= n {
+            return false;
+        }
+        last = t;
+        j += 1;
+    }
+    true
+}
+
+// Question 6 of one state.
+pub fn in_order(sheet: &[u8], table: &[u32], state: usize, n: usize) -> bool
+    requires { ⌜ Within (now sheet) (now table) state ⌝ }
+    ensures { λ r. ⌜ r ≡ successorsInOrder n state (nodeAt (problemOf (now (sheet .entry))) state) ⌝ }
+{
+    if is_terminal(sheet, table, state) {
+        return true;
+    }
+    let mut at: usize = first_action(sheet, table, state);
+    let mut k: usize = 0;
+    while action_here(sheet, at) {
+        if ascending_at(sheet, at, state, n) {
+            at = next_action(sheet, at);
+            k += 1;
+        } else {
+            return false;
+        }
+    }
+    true
+}
+
+// Question 7 of one state.
+pub fn value_under(sheet: &[u8], table: &[u32], kind: u8, state: usize) -> bool
+    requires { ⌜ Within (now sheet) (now table) state ⌝ }
+    requires { ⌜ Ordered (problemOf (now sheet)) kind ⌝ }
+    ensures { λ r. ⌜ r ≡ valueUnder (problemOf (now (sheet .entry))) (cellsOf (now (sheet .entry))) state (nodeAt (problemOf (now (sheet .entry))) state) ⌝ }
+{
+    let value = value_at(sheet, table, state);
+    if is_terminal(sheet, table, state) {
+        return value <= terminal_cost(sheet, table, state);
+    }
+    let mut at: usize = first_action(sheet, table, state);
+    let mut k: usize = 0;
+    while action_here(sheet, at) {
+        let x = price(sheet, table, kind, at);
+        if x.price < value {
+            return false;
+        }
+        at = next_action(sheet, at);
+        k += 1;
+    }
+    true
+}
+
+// Are all successors of the action at `at` solved?
+pub fn all_solved(sheet: &[u8], table: &[u32], at: usize) -> bool
+    requires { ⌜ Priced (now sheet) (now table) at ⌝ }
+    ensures { λ r. ⌜ r ≡ allSolved (cellsOf (now (sheet .entry))) (actionRead (drop at (now (sheet .entry))) .successors) ⌝ }
+{
+    let m = successor_count(sheet, at);
+    let mut j: usize = 0;
+    while j < m {
+        let t = successor(sheet, at, j);
+        if solved_at(sheet, table, t) {
+            j += 1;
+        } else {
+            return false;
+        }
+    }
+    true
+}
+
+// Where action i of a decision stands.
+pub fn action_at(sheet: &[u8], table: &[u32], state: usize, i: usize) -> usize
+    requires { ⌜ Decision (now sheet) (now table) state ⌝ }
+    requires { ⌜ i < length (actionsOf (nodeAt (problemOf (now sheet)) state)) ⌝ }
+    ensures { λ r. ⌜ r ≡ actionOffset (problemOf (now (sheet .entry))) state i ⌝ }
+{
+    let mut at: usize = first_action(sheet, table, state);
+    let mut k: usize = 0;
+    while k < i {
+        at = next_action(sheet, at);
+        k += 1;
+    }
+    at
+}
+
+// Question 8 of one solved state.
+pub fn mark_earned(sheet: &[u8], table: &[u32], kind: u8, state: usize) -> bool
+    requires { ⌜ Within (now sheet) (now table) state ⌝ }
+    requires { ⌜ Ordered (problemOf (now sheet)) kind ⌝ }
+    requires { ⌜ ChosenExists (problemOf (now sheet)) (cellsOf (now sheet)) state ⌝ }
+    ensures { λ r. ⌜ r ≡ markEarned (problemOf (now (sheet .entry))) (cellsOf (now (sheet .entry))) state (nodeAt (problemOf (now (sheet .entry))) state) ⌝ }
+{
+    let value = value_at(sheet, table, state);
+    if is_terminal(sheet, table, state) {
+        return value == terminal_cost(sheet, table, state);
+    }
+    let chosen = place(wide(chosen_at(sheet, table, state)));
+    let at = action_at(sheet, table, state, chosen);
+    let x = price(sheet, table, kind, at);
+    if value == x.price {
+        all_solved(sheet, table, at)
+    } else {
+        false
+    }
+}
+
+// A question of one state, the questions before it answered yes for the whole sheet.
+pub fn passes(
+    sheet: &[u8],
+    table: &[u32],
+    kind: u8,
+    n: usize,
+    state: usize,
+    question: Question,
+) -> bool
+    requires { ⌜ Within (now sheet) (now table) state ⌝ }
+    requires { ⌜ (n ≡ states (problemOf (now sheet))) × (kindOf kind ≡ problemOf (now sheet) .kind) ⌝ }
+    requires { ⌜ Before question (problemOf (now sheet)) (cellsOf (now sheet)) ⌝ }
+    ensures { λ r. ⌜ r ≡ passesAt question (problemOf (now (sheet .entry))) (cellsOf (now (sheet .entry))) state ⌝ }
+{
+    match question {
+        Question::Ranges => in_range(sheet, table, state),
+        Question::Order => in_order(sheet, table, state, n),
+        Question::Bounds => value_under(sheet, table, kind, state),
+        Question::Marks => {
+            if solved_at(sheet, table, state) {
+                mark_earned(sheet, table, kind, state)
+            } else {
+                true
+            }
+        }
+    }
+}
+
+// A question of every state.
+pub fn all_pass(sheet: &[u8], table: &[u32], kind: u8, n: usize, question: Question) -> bool
+    requires { ⌜ (0 < n) × Within (now sheet) (now table) 0 ⌝ }
+    requires { ⌜ (n ≡ states (problemOf (now sheet))) × (kindOf kind ≡ problemOf (now sheet) .kind) ⌝ }
+    requires { ⌜ Before question (problemOf (now sheet)) (cellsOf (now sheet)) ⌝ }
+    ensures { λ r. ⌜ r ≡ every n (passesAt question (problemOf (now (sheet .entry))) (cellsOf (now (sheet .entry)))) ⌝ }
+{
+    let mut s: usize = 0;
+    while s < n {
+        if passes(sheet, table, kind, n, s, question) {
+            s += 1;
+        } else {
+            return false;
+        }
+    }
+    true
+}

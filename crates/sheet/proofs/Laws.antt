@@ -1,0 +1,240 @@
+-- What the bytes of a sheet are at each offset that the code reads or stores.
+use Prim.Native.Nat.{ℕ, zero, suc, _+_, _*_, _<_, _≤_}
+use mathlib.Core.Path.{_≡_, refl, ap, _∙_, sym}
+use mathlib.Core.Bool.{Bool, true, false}
+use mathlib.Core.List.{List, [], _∷_}
+use native.Mathlib.Omega.{arith}
+use native.Mathlib.Numerals.{add-one}
+use borrow.Author.Tests.{eqb-true, eqb-false}
+use lib.Dec.{eqb}
+use lib.ListN.{length, getD, set, drop, length-set}
+use lib.Seq.{getD-set-same, getD-set-other, set-set}
+use Rattle.model.specs.Problem.{Action, Node, terminal, decision, Problem, Cell, cell, states, nodeAt, actionAt, cellOf, setValue, setSolved}
+use Rattle.model.specs.Format.{be32, put32, terminalTag, decisionTag, actionTag, write, nodeSize, actionPlace, tagOf, valueIn, valueOffset, actionsOf, actionOffset}
+use Rattle.model.specs.Read.{actionFits, actionRead, problemOf, cellsOf}
+use Rattle.layout.specs.Shape.{Few, ActionsShaped, NodeShaped, NodesShaped, ChosenShaped, Shaped, setMark, setChosen}
+use Rattle.layout.proofs.Places.{write-length}
+use Rattle.layout.proofs.Fields.{state-room, value-room, tag-at, value-at, mark-at, value-stored, mark-stored, cost-at, chosen-at, chosen-stored, action-tag-at, action-next, after-last}
+use Rattle.layout.proofs.Back.{problem-back, cells-back}
+use Rattle.layout.proofs.Actions.{content-of, count-of, written-action, written-fits}
+use Rattle.sheet.specs.Sheet.{Sheet, Within, Terminal, Decision, Priced, costOf}
+
+-- A node by its tag, and where the value stands in its field.
+pub is-terminal : (n : Node) → tagOf n ≡ terminalTag → n ≡ terminal (costOf n)
+unfolding tagOf costOf
+is-terminal (terminal cost) e = refl
+is-terminal (decision acts) e = absurd (omega arith)
+
+pub is-decision : (n : Node) → tagOf n ≡ decisionTag → n ≡ decision (actionsOf n)
+unfolding tagOf actionsOf
+is-decision (terminal cost) e = absurd (omega arith)
+is-decision (decision acts) e = refl
+
+terminal-value : (n : Node) → tagOf n ≡ terminalTag → valueIn n ≡ 7
+unfolding tagOf valueIn
+terminal-value (terminal cost) e = refl
+terminal-value (decision acts) e = absurd (omega arith)
+
+decision-value : (n : Node) → (tagOf n ≡ terminalTag → ⊥) → valueIn n ≡ 3
+unfolding tagOf valueIn
+decision-value (terminal cost) e = absurd (e refl)
+decision-value (decision acts) e = refl
+
+nine-inside : (n : Node) → 9 ≤ nodeSize n
+unfolding nodeSize
+nine-inside (terminal cost) = omega arith
+nine-inside (decision acts) = omega arith
+
+-- The shape of one state, and of one action.
+pub node-shaped : (ns : List Node) (i : ℕ) → i < length ns → NodesShaped ns → NodeShaped (getD ns i (terminal 0))
+node-shaped [] i lt h = absurd (omega arith)
+node-shaped (n ∷ ns) zero lt h = h .0
+node-shaped (n ∷ ns) (suc i) lt h = node-shaped ns i (omega arith) (h .1)
+
+pub action-shaped : (acts : List Action) (k : ℕ) → k < length acts → ActionsShaped acts → Few (actionAt acts k .successors)
+action-shaped [] k lt h = absurd (omega arith)
+action-shaped (a ∷ more) zero lt h = h .0
+action-shaped (a ∷ more) (suc k) lt h = action-shaped more k (omega arith) (h .1)
+
+chosen-kept : (n : Node) (c c′ : Cell) → c′ .chosen ≡ c .chosen → ChosenShaped n c → ChosenShaped n c′
+chosen-kept (terminal cost) c c′ e h = e ∙ h
+chosen-kept (decision acts) c c′ e h = tt
+
+-- one cell changed
+pub shaped-set : {p : Problem} {cells : List Cell} → Shaped p cells → (i : ℕ) (c : Cell) → i < states p → ChosenShaped (nodeAt p i) c → Shaped p (set cells i c)
+shaped-set {p} {cells} h i c lt ch = record {
+  some = h .some;
+  most = h .most;
+  start = h .start;
+  nodes = h .nodes;
+  count = length-set cells i c ∙ h .count;
+  chosen = λ j lj. by j lj (eqb j i) refl;
+}
+  where
+    by : (j : ℕ) → j < states p → (b : Bool) → eqb j i ≡ b → ChosenShaped (nodeAt p j) (cellOf (set cells i c) j)
+    by j lj true e = rw (eqb-true j i e, getD-set-same cells i c (cell 0 0 0) (omega (arith, h .count))) ch
+    by j lj false e = rw (getD-set-other cells i j c (cell 0 0 0) (eqb-false j i e)) (h .chosen j lj)
+
+-- an action's field that fits, with its successors, is inside
+pub action-inside : (s : List ℕ) (o : ℕ) → actionFits (drop o s) ≡ true →
+    (length (actionRead (drop o s) .successors) ≤ 16) × (o + 7 + 2 * length (actionRead (drop o s) .successors) ≤ length s)
+action-inside s o fits = omega (arith, content-of s o fits, count-of s o fits)
+
+-- The problem and the cells of a sheet are those that its bytes say.
+module _ {s t : List ℕ} {p : Problem} {cells : List Cell} (h : Sheet s t p cells) where
+  pub problem-is : problemOf s ≡ p
+  problem-is = ap problemOf (h .is) ∙ problem-back p cells (h .shaped)
+
+  pub cells-are : cellsOf s ≡ cells
+  cells-are = ap cellsOf (h .is) ∙ cells-back p cells (h .shaped)
+
+  pub named : Sheet s t p (cellsOf s)
+  named = rw cells-are h
+
+  pub own : Sheet s t (problemOf s) (cellsOf s)
+  own = rw (problem-is, cells-are) h
+
+  pub within : (i : ℕ) → i < states p → Within s t i
+  within i lt = record { sheet = own; below = rw problem-is lt }
+
+  -- what a contract says of a state, of p
+  pub state-below : {i : ℕ} → Within s t i → i < states p
+  state-below w = rw problem-is at (w .below)
+
+  pub terminal-tag : {i : ℕ} → Terminal s t i → tagOf (nodeAt p i) ≡ terminalTag
+  terminal-tag w = rw problem-is at (w .tag)
+
+  pub decision-tag : {i : ℕ} → Decision s t i → tagOf (nodeAt p i) ≡ decisionTag
+  decision-tag w = rw problem-is at (w .tag)
+
+pub sheet-length : {s s′ t t′ : List ℕ} {p : Problem} {cells cells′ : List Cell} → Sheet s t p cells → Sheet s′ t′ p cells′ → length s′ ≡ length s
+sheet-length {p} {cells} {cells′} h h′ = rw (h .is, h′ .is) (write-length p cells′ cells)
+
+-- State i of a sheet: its fields, and stores in its cell.
+module _ {s t : List ℕ} {p : Problem} {cells : List Cell} (h : Sheet s t p cells) (i : ℕ) (lt : i < states p) where
+  long : length s ≡ length (write p cells)
+  long = ap length (h .is)
+
+  -- the first nine bytes of its field are inside
+  pub nine-room : getD t i 0 + 9 ≤ length s
+  nine-room = omega (arith, long, h .table i lt, state-room p cells i lt, nine-inside (nodeAt p i))
+
+  pub state-in : getD t i 0 < length s
+  state-in = omega (arith, nine-room)
+
+  pub tag-of : getD s (getD t i 0) 0 ≡ tagOf (nodeAt p i)
+  tag-of = rw (h .table i lt, h .is) (tag-at p cells i lt)
+
+  value-place : (o k : ℕ) → o ≡ getD t i 0 → valueIn (nodeAt p i) ≡ k → (o + k ≡ valueOffset p i) × (o + k + 5 ≤ length s)
+  unfolding valueOffset
+  value-place o k here e = omega (arith, long, h .table i lt, value-room p cells i lt)
+
+  -- where its value stands
+  pub place-terminal : (o : ℕ) → o ≡ getD t i 0 → getD s o 0 ≡ terminalTag → (o + 7 ≡ valueOffset p i) × (o + 7 + 5 ≤ length s)
+  place-terminal o here e = value-place o 7 here (terminal-value (nodeAt p i) (sym tag-of ∙ rw here at e))
+
+  pub place-decision : (o : ℕ) → o ≡ getD t i 0 → (getD s o 0 ≡ terminalTag → ⊥) → (o + 3 ≡ valueOffset p i) × (o + 3 + 5 ≤ length s)
+  place-decision o here e = value-place o 3 here (decision-value (nodeAt p i) (λ y. e (rw here (tag-of ∙ y))))
+
+  pub first-action-at : (o : ℕ) → o ≡ getD t i 0 → o + 9 ≡ actionOffset p i 0
+  unfolding actionOffset actionPlace
+  first-action-at o here = omega (arith, h .table i lt)
+
+  pub value-of : be32 s (valueOffset p i) ≡ cellOf cells i .value
+  value-of = rw (h .is) (value-at p cells i lt)
+
+  pub mark-of : getD s (valueOffset p i + 4) 0 ≡ cellOf cells i .mark
+  mark-of = rw (h .is) (mark-at p cells i lt)
+
+  -- bytes that write the sheet with another cell
+  with-cell : (s′ : List ℕ) (c : Cell) → s′ ≡ write p (set cells i c) → ChosenShaped (nodeAt p i) c → Sheet s′ t p (set cells i c)
+  with-cell s′ c is ch = record { is = is; shaped = shaped-set (h .shaped) i c lt ch; wide = h .wide; table = h .table }
+
+  has-cell : i < length cells
+  has-cell = omega (arith, h .shaped .count)
+
+  same-chosen : (c : Cell) → c .chosen ≡ cellOf cells i .chosen → ChosenShaped (nodeAt p i) c
+  same-chosen c e = chosen-kept (nodeAt p i) (cellOf cells i) c e (h .shaped .chosen i lt)
+
+  pub with-value : (x : ℕ) → Sheet (put32 s (valueOffset p i) x) t p (setValue cells i x)
+  with-value x = with-cell _ _ (rw (h .is) (value-stored p cells i lt x has-cell)) (same-chosen _ refl)
+
+  pub with-mark : (m : ℕ) → Sheet (set s (valueOffset p i + 4) m) t p (setMark cells i m)
+  with-mark m = with-cell _ _ (rw (h .is) (mark-stored p cells i lt m has-cell)) (same-chosen _ refl)
+
+  -- a terminal
+  module _ (tag : tagOf (nodeAt p i) ≡ terminalTag) where
+    pub terminal-cost-of : be32 s (getD t i 0 + 3) ≡ costOf (nodeAt p i)
+    terminal-cost-of = rw (h .is, h .table i lt) (cost-at p cells i lt (costOf (nodeAt p i)) (is-terminal (nodeAt p i) tag))
+
+    none-chosen : cellOf cells i .chosen ≡ 0
+    none-chosen = rw (is-terminal (nodeAt p i) tag) at (h .shaped .chosen i lt)
+
+    pub with-terminal-solved : Sheet (set s (valueOffset p i + 4) 1) t p (setSolved cells i 0)
+    with-terminal-solved = rw none-chosen at (with-mark 1)
+
+  -- a decision
+  module _ (tag : tagOf (nodeAt p i) ≡ decisionTag) where
+    pub chosen-room : valueOffset p i + 6 ≤ length s
+    unfolding valueOffset
+    chosen-room = omega (arith, long, decision-value (nodeAt p i) (λ y. omega arith), state-room p cells i lt, nine-inside (nodeAt p i))
+
+    pub chosen-of : getD s (valueOffset p i + 5) 0 ≡ cellOf cells i .chosen
+    chosen-of = rw (h .is) (chosen-at p cells i lt (actionsOf (nodeAt p i)) (is-decision (nodeAt p i) tag))
+
+    pub with-chosen : (k : ℕ) → Sheet (set s (valueOffset p i + 5) k) t p (setChosen cells i k)
+    with-chosen k =
+        let is = is-decision (nodeAt p i) tag in
+        with-cell _ _ (rw (h .is) (chosen-stored p cells i lt (actionsOf (nodeAt p i)) is k has-cell)) (rw is tt)
+
+pub with-decision-solved : {s t : List ℕ} {p : Problem} {cells : List Cell} → Sheet s t p cells → (i : ℕ) → i < states p → tagOf (nodeAt p i) ≡ decisionTag → (k : ℕ) →
+    Sheet (set (set s (valueOffset p i + 4) 1) (valueOffset p i + 5) k) t p (setSolved cells i k)
+with-decision-solved {cells} h i lt tag k =
+    rw (set-set, getD-set-same cells i _ _ (has-cell h i lt)) at (with-chosen (with-mark h i lt 1) i lt tag k)
+
+-- Action k of decision i, which stands at o.
+abbrev pub actionsAt : Problem → ℕ → List Action
+actionsAt p i = actionsOf (nodeAt p i)
+
+module _ {s t : List ℕ} {p : Problem} {cells : List Cell} (h : Sheet s t p cells) (i : ℕ) (lt : i < states p) (tag : tagOf (nodeAt p i) ≡ decisionTag) where
+  node-is : nodeAt p i ≡ decision (actionsAt p i)
+  node-is = is-decision (nodeAt p i) tag
+
+  shape : NodeShaped (decision (actionsAt p i))
+  shape = rw node-is at (node-shaped (p .nodes) i lt (h .shaped .nodes))
+
+  pub few-actions : Few (actionsAt p i)
+  few-actions = shape .0
+
+  pub few-successors : (k : ℕ) → k < length (actionsAt p i) → Few (actionAt (actionsAt p i) k .successors)
+  few-successors k lk = action-shaped (actionsAt p i) k lk (shape .1)
+
+  module _ (k o : ℕ) (here : o ≡ actionOffset p i k) where
+    -- whether there is one
+    pub action-stands : k ≤ length (actionsAt p i) → eqb (getD s o 0) actionTag ≡ true → k < length (actionsAt p i)
+    action-stands le e =
+        let ne : k ≡ length (actionsAt p i) → ⊥ = λ w. after-last p cells i lt (actionsAt p i) node-is (rw (h .is, here, w) at (eqb-true (getD s o 0) actionTag e)) in
+        omega arith
+
+    pub action-ends : eqb (getD s o 0) actionTag ≡ false → length (actionsAt p i) ≤ k
+    action-ends e =
+        let no : k < length (actionsAt p i) → ⊥ = λ lk. eqb-false (getD s o 0) actionTag e (rw (h .is, here) (action-tag-at p cells i lt (actionsAt p i) node-is k lk)) in
+        omega arith
+
+    -- what it says
+    module _ (lk : k < length (actionsAt p i)) where
+      pub action-is : actionRead (drop o s) ≡ actionAt (actionsAt p i) k
+      action-is = rw (h .is, here) (written-action p cells i lt (actionsAt p i) node-is k lk)
+
+      pub action-in-place : actionFits (drop o s) ≡ true
+      action-in-place = rw (h .is, here) (written-fits p cells i lt (actionsAt p i) node-is k lk (few-successors k lk))
+
+      pub action-priced : ((j : ℕ) → j < length (actionAt (actionsAt p i) k .successors) → getD (actionAt (actionsAt p i) k .successors) j 0 < states p) → Priced s t o
+      action-priced below = record { sheet = own h; fits = action-in-place; below = rw (action-is, problem-is h) below }
+
+      -- what follows it
+      pub action-after : (r : ℕ) → r ≡ o + 7 + 2 * length (actionRead (drop o s) .successors) → r ≡ actionOffset p i (k + 1)
+      action-after r e =
+          let n = action-next p cells i lt (actionsAt p i) node-is k lk in
+          let m : length (actionRead (drop o s) .successors) ≡ length (actionAt (actionsAt p i) k .successors) = ap (λ (a : Action). length (a .successors)) action-is in
+          rw add-one (omega arith)
