@@ -2,3 +2,4 @@ pub mod Actions
 pub mod Passing
 pub mod Trying
 pub mod Updates
+pub mod Solving

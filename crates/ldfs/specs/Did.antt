@@ -1,11 +1,14 @@
 -- What the contracts of the search say: the bytes and the answer are what the procedure's definition gives.
-use Prim.Native.Nat.{ℕ, _≤_}
+use Prim.Native.Nat.{ℕ}
 use mathlib.Core.Path.{_≡_}
 use mathlib.Core.Bool.{Bool, true, false}
 use mathlib.Core.List.{List}
 use Rattle.model.specs.Problem.{Problem, Cell}
 use Rattle.model.specs.Read.{kindOf, problemOf, cellsOf}
-use Rattle.model.specs.Ldfs.{Search, Visit, success, failure, halt, Passes}
+use Rattle.model.specs.declared.Answer.{Answer}
+use Rattle.model.specs.Format.{write}
+use Rattle.model.specs.Ldfs.{Search, Visit, success, failure, halt, Passes, work}
+use Rattle.model.specs.Report.{cellsAfter, finished}
 use Rattle.sheet.specs.Sheet.{Sheet}
 use Rattle.theory.specs.Consistent.{WellFormed, Consistent}
 use Rattle.ldfs.specs.declared.visits.Way.{Way}
@@ -48,3 +51,8 @@ pub record Stored (t : List ℕ) (p : Problem) (s : List ℕ) (u : Updated) (o :
 pub record DidPasses (t : List ℕ) (p : Problem) (s : List ℕ) (r : PassesMade) (o : Passes) : Type 0 where
   pub sheet : Sheet s t p (cellsOf s)
   pub said : record { begun = r .begun; ended = visitOf (cellsOf s) (r .way) (r .raises) } ≡ o
+
+-- the bytes s′ and the answer r are the work of a call on the sheet s
+pub record Finished (t s s′ : List ℕ) (r : Answer) (budget : ℕ) : Type 0 where
+  pub bytes : s′ ≡ write (problemOf s) (cellsAfter (work (problemOf s) (cellsOf s) budget))
+  pub said : r ≡ finished (problemOf s) (work (problemOf s) (cellsOf s) budget)

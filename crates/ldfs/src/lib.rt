@@ -1,3 +1,95 @@
-// Learning depth-first search over the bytes of a sheet.
+// Learning depth-first search over the bytes of a sheet, and the public `solve`.
 pub mod visits; // visits.rt: a visit to a state
 pub mod passes; // passes.rt: passes, visits to the start
+
+ghost use mathlib.Core.Path.{_≡_};
+ghost use mathlib.Core.List.{List};
+ghost use Prim.Native.Nat.{ℕ, _<_, _≤_};
+ghost use lib.ListN.{length, getD};
+ghost use Rattle.model.specs.Problem.{Problem, cellOf};
+ghost use Rattle.model.specs.Read.{problemOf, cellsOf};
+ghost use Rattle.model.specs.Ldfs.{work as worked};
+ghost use Rattle.model.specs.Report.{refused, finished, answerTo, bytesAfter, tableAfter};
+ghost use Rattle.sheet.specs.Sheet.{Sheet, Within};
+ghost use Rattle.ldfs.specs.Did.{Workable, Finished};
+use model::Answer;
+use model::Outcome;
+use passes::work;
+use questions::Verdict;
+use questions::check;
+use questions::clear;
+use sheet::fields::solved_at;
+use sheet::fields::value_at;
+use sheet::numbers::get16;
+use sheet::numbers::long;
+use sheet::numbers::place;
+
+// The answer of a call that is refused.
+pub fn refusal(n: u32) -> Answer
+    ensures { λ r. ⌜ r ≡ refused n ⌝ }
+{
+    Answer {
+        outcome: Outcome::Refused(n),
+        price: 0,
+        passes: 0,
+        raises: 0,
+    }
+}
+
+// The work of a call on an accepted sheet, and its answer: settled where the start is marked below the ceiling, over where it is marked at it, else
+// stopped.
+pub fn finish(sheet: &mut [u8], table: &[u32], budget: u64) -> Answer
+    requires { ⌜ Within (now sheet) (now table) (problemOf (now sheet) .start) ⌝ }
+    requires { ⌜ Workable (now sheet) (now table) (getD (now sheet) 3 0) ⌝ }
+    ensures { λ r. ⌜ Finished (now (table .entry)) (now (sheet .entry)) (now (sheet .exit)) r budget ⌝ }
+{
+    let start = place(get16(sheet, 6));
+    let kind = sheet[3];
+    let w = work(sheet, table, kind, start, budget);
+    let price = long(value_at(sheet, table, start));
+    if solved_at(sheet, table, start) {
+        if price < 1000000000 {
+            Answer {
+                outcome: Outcome::Settled,
+                price,
+                passes: w.begun,
+                raises: w.raises,
+            }
+        } else {
+            Answer {
+                outcome: Outcome::Over,
+                price,
+                passes: w.begun,
+                raises: w.raises,
+            }
+        }
+    } else {
+        Answer {
+            outcome: Outcome::Stopped,
+            price,
+            passes: w.begun,
+            raises: w.raises,
+        }
+    }
+}
+
+// Works any bytes as a sheet, with any table and any budget. What it answers, and what it leaves in the sheet and in the table, is what document 01's
+// questions and procedure give: for every input, refused or not.
+pub fn solve(sheet: &mut [u8], table: &mut [u32], budget: u64) -> Answer
+    ensures answer { λ r. ⌜ r ≡ answerTo (now (sheet .entry)) (length (now (table .entry))) budget ⌝ }
+    ensures sheet { λ _. ⌜ now (sheet .exit) ≡ bytesAfter (now (sheet .entry)) (length (now (table .entry))) budget ⌝ }
+    ensures table { λ _. ⌜ now (table .exit) ≡ tableAfter (now (sheet .entry)) (now (table .entry)) budget ⌝ }
+{
+    let v = check(sheet, table);
+    match v {
+        Verdict::Refused(n) => refusal(n),
+        Verdict::Accepted => {
+            if budget == 0 {
+                clear(table, 0);
+                refusal(9)
+            } else {
+                finish(sheet, table, budget)
+            }
+        }
+    }
+}

@@ -1,0 +1,180 @@
+-- From the questions' verdict to the work of a call, and from its end to the answer.
+use Prim.Native.Nat.{ℕ, zero, suc, _-_, _<_, _≤_}
+use mathlib.Core.Path.{_≡_, refl, sym, ap, _∙_}
+use mathlib.Core.Bool.{Bool, true, false}
+use mathlib.Core.List.{List, [], _∷_, _++_}
+use native.Mathlib.Omega.{arith}
+use borrow.Author.Tests.{lt-ltb, le-ltb, eq-eqb, le-leb, leb-true}
+use lib.ListN.{length, getD, take, replicate, length-append, length-replicate, List·getD-append}
+use Rattle.model.specs.declared.Answer.{Answer}
+use Rattle.model.specs.declared.Outcome.{Outcome}
+use Rattle.model.specs.declared.Outcome.the-variants.{Settled, Over, Stopped}
+use Rattle.model.specs.Tests.{fork}
+use Rattle.model.specs.Problem.{Cell, states, cellOf, valueOf, solved}
+use Rattle.model.specs.Format.{be16, offset, offsetsFrom, write}
+use Rattle.model.specs.Read.{kindOf, problemOf, cellsOf}
+use Rattle.model.specs.QValue.{ceiling}
+use Rattle.model.specs.Questions.{question1, question9, Question, sheetQuestions, firstNo, sheetRefusal, refusal, accepted, AllYes, none-no, all-yes}
+use Rattle.model.specs.Ldfs.{Search, searchOf, work}
+use Rattle.model.specs.Report.{outcomeOf, cellsAfter, raisesOf, refused, onRefusal, answerTo, bytesAfter, indexTable, refusedTable, checkedTable, tableAfter}
+use Rattle.layout.specs.Shape.{Bytes}
+use Rattle.layout.proofs.Index.{offsets-count, index-is}
+use Rattle.theory.proofs.Accepted.{asked-problem, asked-cells}
+use Rattle.theory.proofs.Sheets.{Stands, accepted-stands, refusals-left}
+use Rattle.sheet.specs.Sheet.{Sheet, Within}
+use Rattle.sheet.proofs.Laws.{nine-room}
+use Rattle.questions.specs.declared.Verdict.the-variants.{Accepted, Refused as RefusedBy}
+use Rattle.questions.specs.Verdicts.{verdict}
+use Rattle.ldfs.specs.declared.visits.Way.{Way}
+use Rattle.ldfs.specs.declared.visits.Way.the-variants.{Success, Failure, Halt}
+use Rattle.ldfs.specs.declared.passes.Passes.{Passes as PassesMade}
+use Rattle.ldfs.specs.Did.{search, visitOf, Workable, DidPasses, Finished}
+
+-- the start's number, and the head's bytes, of a sheet
+pub start-is : (s : List ℕ) → be16 s 6 ≡ problemOf s .start
+unfolding problemOf
+start-is s = refl
+
+pub kind-is : (s : List ℕ) → kindOf (getD s 3 0) ≡ problemOf s .kind
+unfolding problemOf
+kind-is s = refl
+
+pub head-room : {s t : List ℕ} {i : ℕ} → Within s t i → 8 ≤ length s
+unfolding offset
+head-room {s} {t} {i} w = omega (arith, nine-room (w .sheet) i (w .below), w .sheet .table i (w .below))
+
+-- The answer of work that is done.
+search-of : (cells : List Cell) (way : Way) (r : ℕ) → searchOf (visitOf cells way r) ≡ search cells r
+search-of cells Success r = refl
+search-of cells Failure r = refl
+search-of cells Halt r = refl
+
+module _ (s : List ℕ) (budget : ℕ) {t s′ : List ℕ} {w : PassesMade} (d : DidPasses t (problemOf s) s′ w (work (problemOf s) (cellsOf s) budget)) where
+  cells-left : cellsAfter (work (problemOf s) (cellsOf s) budget) ≡ cellsOf s′
+  cells-left = rw (← d .said) (ap (λ (v : Search). v .cells) (search-of (cellsOf s′) (w .way) (w .raises)))
+
+  raises-made : raisesOf (work (problemOf s) (cellsOf s) budget) ≡ w .raises
+  raises-made = rw (← d .said) (ap (λ (v : Search). v .raises) (search-of (cellsOf s′) (w .way) (w .raises)))
+
+  begun-made : work (problemOf s) (cellsOf s) budget .begun ≡ w .begun
+  begun-made = rw (← d .said)
+
+  finished-with : (o : Outcome) (price : ℕ) → price ≡ valueOf (cellsOf s′) (problemOf s .start) → outcomeOf (cellOf (cellsOf s′) (problemOf s .start)) ≡ o →
+      Finished t s s′ (record { outcome = o; price = price; passes = w .begun; raises = w .raises }) budget
+  finished-with o price v e = record {
+    bytes = d .sheet .is ∙ ap (write (problemOf s)) (sym cells-left);
+    said = rw (cells-left, begun-made, raises-made, e, v);
+  }
+
+  -- by the start's mark and value
+  module _ (start price : ℕ) (at : start ≡ problemOf s .start) (v : price ≡ valueOf (cellsOf s′) start) (b : Bool) (mark : b ≡ solved (cellOf (cellsOf s′) start)) where
+    value : price ≡ valueOf (cellsOf s′) (problemOf s .start)
+    value = v ∙ ap (valueOf (cellsOf s′)) at
+
+    marked : solved (cellOf (cellsOf s′) (problemOf s .start)) ≡ b
+    marked = sym (mark ∙ ap (λ (i : ℕ). solved (cellOf (cellsOf s′) i)) at)
+
+    pub settled : b ≡ true → price < 1000000000 → Finished t s s′ (record { outcome = Settled; price = price; passes = w .begun; raises = w .raises }) budget
+    unfolding outcomeOf ceiling
+    settled e lt = finished-with Settled price value (rw (marked, e, ← value, lt-ltb price 1000000000 lt))
+
+    pub over : b ≡ true → 1000000000 ≤ price → Finished t s s′ (record { outcome = Over; price = price; passes = w .begun; raises = w .raises }) budget
+    unfolding outcomeOf ceiling
+    over e le = finished-with Over price value (rw (marked, e, ← value, le-ltb price 1000000000 le))
+
+    pub stopped : b ≡ false → Finished t s s′ (record { outcome = Stopped; price = price; passes = w .begun; raises = w .raises }) budget
+    unfolding outcomeOf
+    stopped e = finished-with Stopped price value (rw (marked, e))
+
+-- The verdict, and the refusal of the call.
+refused-more : (n : ℕ) (asked more : List Question) (k : ℕ) → firstNo n asked ≡ suc k → firstNo n (asked ++ more) ≡ suc k
+unfolding firstNo
+refused-more n [] more k h = absurd (omega arith)
+refused-more n (ask ∷ asked) more k h = go (ask tt) refl (refused-more (suc n) asked more k)
+  where
+    go : (b : Bool) → ask tt ≡ b → (firstNo (suc n) asked ≡ suc k → firstNo (suc n) (asked ++ more) ≡ suc k) → firstNo n ((ask ∷ asked) ++ more) ≡ suc k
+    go true e ih = rw e (ih (rw e at h))
+    go false e ih = rw e (rw e at h)
+
+-- what `solve` promises of an answer, of the sheet and of the table
+abbrev pub Solved : List ℕ → List ℕ → ℕ → Answer → List ℕ → List ℕ → Type 0
+Solved s t budget r s′ t′ = (r ≡ answerTo s (length t) budget) × ((s′ ≡ bytesAfter s (length t) budget) × (t′ ≡ tableAfter s t budget))
+
+module _ (s t : List ℕ) (budget : ℕ) where
+  -- by the refusal of the call
+  refused-call : (k : ℕ) → refusal s (length t) budget ≡ suc k → (r : Answer) → r ≡ refused (suc k) → (t′ : List ℕ) → t′ ≡ refusedTable t (suc k) → Solved s t budget r s t′
+  unfolding answerTo bytesAfter tableAfter onRefusal
+  refused-call k e r a t′ last = rw e (a, (refl, last))
+
+  worked-call : refusal s (length t) budget ≡ 0 → (s′ t′ : List ℕ) (r : Answer) → Finished t′ s s′ r budget → t′ ≡ indexTable (problemOf s) (length t) → Solved s t budget r s′ t′
+  unfolding answerTo bytesAfter tableAfter onRefusal
+  worked-call e s′ t′ r f last = rw e (f .said, (f .bytes, last))
+
+  -- refused by questions 1 to 8
+  pub refused-by : (n : ℕ) → RefusedBy n ≡ verdict (sheetRefusal s (length t)) → (r : Answer) → r ≡ refused n → (t′ : List ℕ) → t′ ≡ checkedTable s t → Solved s t budget r s t′
+  unfolding verdict checkedTable sheetRefusal refusal onRefusal
+  refused-by n e r a t′ last = go (sheetRefusal s (length t)) refl e
+    where
+      go : (k : ℕ) → sheetRefusal s (length t) ≡ k → RefusedBy n ≡ verdict k → Solved s t budget r s t′
+      go zero z v = let f : _≡_ {A = ℕ} 0 1 = cc in absurd (omega arith)
+      go (suc k) z v =
+          let same : n ≡ suc k = cc in
+          refused-call k (refused-more 1 ((λ _. question1 (length t)) ∷ sheetQuestions s) ((λ _. question9 budget) ∷ []) k z) r (a ∙ ap refused same) t′ (last ∙ rw z)
+
+  -- accepted by questions 1 to 8
+  module _ (e : Accepted ≡ verdict (sheetRefusal s (length t))) (byte : Bytes s) where
+    none : sheetRefusal s (length t) ≡ 0
+    unfolding verdict
+    none = go (sheetRefusal s (length t)) e
+      where
+        go : (k : ℕ) → Accepted ≡ verdict k → k ≡ 0
+        go zero v = refl
+        go (suc k) v = let f : _≡_ {A = ℕ} 0 1 = cc in absurd (omega arith)
+
+    yes : AllYes ((λ _. question1 (length t)) ∷ sheetQuestions s)
+    unfolding sheetRefusal
+    yes = none-no 0 ((λ _. question1 (length t)) ∷ sheetQuestions s) none
+
+    stands : Stands s (problemOf s) (cellsOf s)
+    unfolding accepted
+    stands = accepted-stands s byte (eq-eqb _ _ (all-yes 2 (sheetQuestions s) (yes .1)))
+
+    by-budget : refusal s (length t) budget ≡ fork (question9 budget) (λ _. 0) (λ _. 9)
+    by-budget = refusals-left s (problemOf s) (cellsOf s) stands (length t) budget ∙ rw (yes .0)
+
+    module _ (t′ : List ℕ) (checked : t′ ≡ checkedTable s t) where
+      filled : t′ ≡ indexTable (problemOf s) (length t)
+      unfolding checkedTable onRefusal
+      filled = checked ∙ rw none
+
+      -- the table is long enough, and as long as it was
+      enough : states (problemOf s) ≤ length t
+      unfolding question1
+      enough = omega (arith, leb-true 1024 (length t) (yes .0), stands .asked .shaped .most)
+
+      long : length t′ ≡ length t
+      unfolding indexTable
+      long = rw (filled, length-append, offsets-count 8 (problemOf s .nodes), length-replicate) (omega (arith, enough))
+
+      sheet : Sheet s t′ (problemOf s) (cellsOf s)
+      unfolding indexTable
+      sheet = record {
+        is = stands .is;
+        shaped = stands .asked .shaped;
+        wide = rw long enough;
+        table = λ i lt. rw filled (List·getD-append (offsetsFrom 8 (problemOf s .nodes)) _ 0 i (rw (offsets-count 8 (problemOf s .nodes)) lt) ∙ index-is (problemOf s) i lt);
+      }
+
+      pub start-within : Within s t′ (problemOf s .start)
+      start-within = record { sheet = sheet; below = stands .asked .shaped .start }
+
+      pub workable : Workable s t′ (getD s 3 0)
+      workable = record { formed = asked-problem (problemOf s) (cellsOf s) (stands .asked); consistent = asked-cells (problemOf s) (cellsOf s) (stands .asked); same = kind-is s }
+
+      pub no-budget : budget ≡ 0 → (r : Answer) → r ≡ refused 9 → (t″ : List ℕ) → t″ ≡ take 0 t′ ++ replicate (length t′ - 0) 0 → Solved s t budget r s t″
+      unfolding question9 refusedTable
+      no-budget z r a t″ last = let l : length t′ - 0 ≡ length t = omega (arith, long) in refused-call 8 (by-budget ∙ rw z) r a t″ (last ∙ rw l)
+
+      pub worked : (budget ≡ 0 → ⊥) → (s′ : List ℕ) (r : Answer) → Finished t′ s s′ r budget → Solved s t budget r s′ t′
+      unfolding question9
+      worked z s′ r f = worked-call (by-budget ∙ rw (le-leb 1 budget (omega arith))) s′ t′ r f filled
