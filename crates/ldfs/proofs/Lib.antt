@@ -3,3 +3,4 @@ pub mod Passing
 pub mod Trying
 pub mod Updates
 pub mod Solving
+pub mod Promises
