@@ -6,3 +6,4 @@ pub mod Back
 pub mod Stay
 pub mod Index
 pub mod Actions
+pub mod Shapes

@@ -12,7 +12,7 @@ use Rattle.model.specs.declared.Outcome.the-variants.{Settled, Over, Stopped}
 use Rattle.model.specs.Tests.{fork}
 use Rattle.model.specs.Problem.{Cell, states, cellOf, valueOf, solved}
 use Rattle.model.specs.Format.{be16, offset, offsetsFrom, write}
-use Rattle.model.specs.Read.{kindOf, problemOf, cellsOf}
+use Rattle.model.specs.Read.{problemOf, cellsOf}
 use Rattle.model.specs.QValue.{ceiling}
 use Rattle.model.specs.Questions.{question1, question9, Question, sheetQuestions, firstNo, sheetRefusal, refusal, accepted, AllYes, none-no, all-yes}
 use Rattle.model.specs.Ldfs.{Search, searchOf, work}
@@ -25,6 +25,7 @@ use Rattle.sheet.specs.Sheet.{Sheet, Within}
 use Rattle.sheet.proofs.Laws.{nine-room}
 use Rattle.questions.specs.declared.Verdict.the-variants.{Accepted, Refused as RefusedBy}
 use Rattle.questions.specs.Verdicts.{verdict}
+use Rattle.questions.proofs.Asking.{kind-is}
 use Rattle.ldfs.specs.declared.visits.Way.{Way}
 use Rattle.ldfs.specs.declared.visits.Way.the-variants.{Success, Failure, Halt}
 use Rattle.ldfs.specs.declared.passes.Passes.{Passes as PassesMade}
@@ -34,10 +35,6 @@ use Rattle.ldfs.specs.Did.{search, visitOf, Workable, DidPasses, Finishe
 pub start-is : (s : List ℕ) → be16 s 6 ≡ problemOf s .start
 unfolding problemOf
 start-is s = refl
-
-pub kind-is : (s : List ℕ) → kindOf (getD s 3 0) ≡ problemOf s .kind
-unfolding problemOf
-kind-is s = refl
 
 pub head-room : {s t : List ℕ} {i : ℕ} → Within s t i → 8 ≤ length s
 unfolding offset

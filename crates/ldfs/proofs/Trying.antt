@@ -5,11 +5,10 @@ use mathlib.Core.Bool.{true, false}
 use mathlib.Core.List.{List}
 use native.Mathlib.Omega.{arith}
 use native.Mathlib.Numerals.{add-one}
-use borrow.Author.Tests.{eqb-false}
 use lib.Dec.{eqb}
 use lib.ListN.{length, getD, drop}
-use Rattle.model.specs.Problem.{Action, Node, terminal, decision, Problem, Cell, states, nodeAt, actionAt, valueOf, setSolved}
-use Rattle.model.specs.Format.{terminalTag, decisionTag, actionTag, tagOf, actionOffset}
+use Rattle.model.specs.Problem.{Action, Problem, Cell, states, nodeAt, actionAt, valueOf, setSolved}
+use Rattle.model.specs.Format.{decisionTag, actionTag, tagOf, actionOffset}
 use Rattle.model.specs.Read.{kindOf, cellsOf, actionRead}
 use Rattle.model.specs.QValue.{q, least}
 use Rattle.model.specs.Ldfs.{Search, Visit, failure, valueAt, solvedAt, priceAt, update, visit}
@@ -50,12 +49,6 @@ module _ {s t : List ℕ} {p : Problem} {v : Visited} {budget f : ℕ} {w : Sear
 
   pub ends : Ends p budget f (w .raises) w (visitOf (cellsOf s) way (v .raises))
   ends = subst (λ (o : Visit). Ends p budget f (w .raises) w o) ended (visit-does p wf budget (states p) f w (omega arith) state ready)
-
--- a state that is no terminal is a decision
-pub not-terminal : (n : Node) → eqb (tagOf n) terminalTag ≡ false → tagOf n ≡ decisionTag
-unfolding tagOf
-not-terminal (terminal cost) e = absurd (eqb-false 2 2 e refl)
-not-terminal (decision acts) e = refl
 
 -- bytes are one problem's, and so what they came from is that problem's
 pub back : {s s₀ t : List ℕ} {p p′ : Problem} {cells cells′ cells₀ : List Cell} → Sheet s t p cells → Sheet s t p′ cells′ → Sheet s₀ t p cells₀ → Sheet s₀ t p′ cells₀

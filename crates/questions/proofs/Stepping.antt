@@ -1,6 +1,6 @@
 -- A test of every state, of every action of a decision or of every successor of an action, one at a time.
 use Prim.Native.Nat.{ℕ, zero, suc, _+_, _*_, _<_, _≤_}
-use mathlib.Core.Path.{_≡_, refl, sym, _∙_}
+use mathlib.Core.Path.{_≡_, sym, _∙_}
 use mathlib.Core.Bool.{Bool, true, false}
 use mathlib.Core.List.{List, [], _∷_}
 use native.Mathlib.Omega.{arith}
@@ -10,13 +10,13 @@ use lib.Dec.{leb, eqb}
 use lib.ListN.{length, getD, drop, drop-of-length-le}
 use lib.Seq.{drop-cons}
 use Rattle.model.specs.Tests.{also, all, every, also-true, true-also, all-true, every-true, every-false}
-use Rattle.model.specs.Problem.{Node, terminal, decision, Problem, Cell, states, nodeAt, actionAt, cellOf, valueOf, solved}
+use Rattle.model.specs.Problem.{decision, Problem, Cell, states, nodeAt, actionAt, cellOf, valueOf, solved}
 use Rattle.model.specs.Format.{terminalTag, decisionTag, actionTag, tagOf, actionsOf, actionOffset}
 use Rattle.model.specs.Read.{actionFits, actionRead, kindOf, problemOf, cellsOf}
 use Rattle.model.specs.QValue.{q}
 use Rattle.model.specs.Questions.{costsInRange, ascending, successorsInOrder, question6, valueUnder, allSolved, passedBy, markEarned}
 use Rattle.sheet.specs.Sheet.{Sheet, Within, Terminal, Decision, Priced, costOf}
-use Rattle.sheet.proofs.Laws.{actionsAt, is-terminal, is-decision, few-actions, action-stands, action-ends, action-is, action-in-place, action-priced, action-after}
+use Rattle.sheet.proofs.Laws.{actionsAt, not-terminal, is-terminal, is-decision, few-actions, action-stands, action-ends, action-is, action-in-place, action-priced, action-after}
 use Rattle.questions.specs.Put.{countInRange, Ordered}
 
 -- every: one more that passes, all of them, one that does not
@@ -173,12 +173,7 @@ module _ {s t : List ℕ} {i : ℕ} (w : Within s t i) (b : Bool) (e : b ≡ eqb
   terminal-from g = record { within = w; tag = eqb-true _ _ (sym e ∙ g) }
 
   pub decision-from : b ≡ false → Decision s t i
-  unfolding tagOf
-  decision-from g = record { within = w; tag = other (nodeAt (problemOf s) i) (eqb-false _ _ (sym e ∙ g)) }
-    where
-      other : (n : Node) → (tagOf n ≡ terminalTag → ⊥) → tagOf n ≡ decisionTag
-      other (terminal cost) g = absurd (g refl)
-      other (decision acts) g = refl
+  decision-from g = record { within = w; tag = not-terminal (nodeAt (problemOf s) i) (eqb-false _ _ (sym e ∙ g)) }
 
 -- question 7 at a terminal, and of one action
 pub under-terminal : {s t : List ℕ} {i : ℕ} → Terminal s t i → leb (valueOf (cellsOf s) i) (costOf (nodeAt (problemOf s) i)) ≡ valueUnder (problemOf s) (cellsOf s) i (nodeAt (problemOf s) i)

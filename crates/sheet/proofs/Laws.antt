@@ -1,8 +1,8 @@
 -- What the bytes of a sheet are at each offset that the code reads or stores.
-use Prim.Native.Nat.{ℕ, zero, suc, _+_, _*_, _<_, _≤_}
+use Prim.Native.Nat.{ℕ, _+_, _*_, _<_, _≤_}
 use mathlib.Core.Path.{_≡_, refl, ap, _∙_, sym}
 use mathlib.Core.Bool.{Bool, true, false}
-use mathlib.Core.List.{List, [], _∷_}
+use mathlib.Core.List.{List}
 use native.Mathlib.Omega.{arith}
 use native.Mathlib.Numerals.{add-one}
 use borrow.Author.Tests.{eqb-true, eqb-false}
@@ -12,8 +12,9 @@ use lib.Seq.{getD-set-same, getD-set-other, set-set}
 use Rattle.model.specs.Problem.{Action, Node, terminal, decision, Problem, Cell, cell, states, nodeAt, actionAt, cellOf, setValue, setSolved}
 use Rattle.model.specs.Format.{be32, put32, terminalTag, decisionTag, actionTag, write, nodeSize, actionPlace, tagOf, valueIn, valueOffset, actionsOf, actionOffset}
 use Rattle.model.specs.Read.{actionFits, actionRead, problemOf, cellsOf}
-use Rattle.layout.specs.Shape.{Few, ActionsShaped, NodeShaped, NodesShaped, ChosenShaped, Shaped, setMark, setChosen}
+use Rattle.layout.specs.Shape.{Few, NodeShaped, ChosenShaped, Shaped, setMark, setChosen}
 use Rattle.layout.proofs.Places.{write-length}
+use Rattle.layout.proofs.Shapes.{node-shaped, action-shaped}
 use Rattle.layout.proofs.Fields.{state-room, value-room, tag-at, value-at, mark-at, value-stored, mark-stored, cost-at, chosen-at, chosen-stored, action-tag-at, action-next, after-last}
 use Rattle.layout.proofs.Back.{problem-back, cells-back}
 use Rattle.layout.proofs.Actions.{content-of, count-of, written-action, written-fits}
@@ -30,6 +31,12 @@ unfolding tagOf actionsOf
 is-decision (terminal cost) e = absurd (omega arith)
 is-decision (decision acts) e = refl
 
+-- a state that is no terminal is a decision
+pub not-terminal : (n : Node) → (tagOf n ≡ terminalTag → ⊥) → tagOf n ≡ decisionTag
+unfolding tagOf
+not-terminal (terminal cost) e = absurd (e refl)
+not-terminal (decision acts) e = refl
+
 terminal-value : (n : Node) → tagOf n ≡ terminalTag → valueIn n ≡ 7
 unfolding tagOf valueIn
 terminal-value (terminal cost) e = refl
@@ -45,17 +52,7 @@ unfolding nodeSize
 nine-inside (terminal cost) = omega arith
 nine-inside (decision acts) = omega arith
 
--- The shape of one state, and of one action.
-pub node-shaped : (ns : List Node) (i : ℕ) → i < length ns → NodesShaped ns → NodeShaped (getD ns i (terminal 0))
-node-shaped [] i lt h = absurd (omega arith)
-node-shaped (n ∷ ns) zero lt h = h .0
-node-shaped (n ∷ ns) (suc i) lt h = node-shaped ns i (omega arith) (h .1)
-
-pub action-shaped : (acts : List Action) (k : ℕ) → k < length acts → ActionsShaped acts → Few (actionAt acts k .successors)
-action-shaped [] k lt h = absurd (omega arith)
-action-shaped (a ∷ more) zero lt h = h .0
-action-shaped (a ∷ more) (suc k) lt h = action-shaped more k (omega arith) (h .1)
-
+-- what is chosen stays in shape
 chosen-kept : (n : Node) (c c′ : Cell) → c′ .chosen ≡ c .chosen → ChosenShaped n c → ChosenShaped n c′
 chosen-kept (terminal cost) c c′ e h = e ∙ h
 chosen-kept (decision acts) c c′ e h = tt
@@ -201,7 +198,7 @@ module _ {s t : List ℕ} {p : Problem} {cells : List Cell} (h : Sheet s t p cel
   node-is = is-decision (nodeAt p i) tag
 
   shape : NodeShaped (decision (actionsAt p i))
-  shape = rw node-is at (node-shaped (p .nodes) i lt (h .shaped .nodes))
+  shape = rw node-is at (node-shaped (p .nodes) (h .shaped .nodes) i)
 
   pub few-actions : Few (actionsAt p i)
   few-actions = shape .0

@@ -1,5 +1,5 @@
 -- Yes to questions 3 to 8 is what the theory supposes, and what work keeps.
-use Prim.Native.Nat.{ℕ, zero, suc, _<_, _≤_}
+use Prim.Native.Nat.{ℕ, _<_, _≤_}
 use mathlib.Core.Path.{_≡_, refl, ap, subst}
 use mathlib.Core.Bool.{Bool, true, false}
 use mathlib.Core.Logic.{_⊎_, inl, inr}
@@ -7,20 +7,16 @@ use mathlib.Core.List.{List, [], _∷_}
 use native.Mathlib.Omega.{arith}
 use borrow.Author.Tests.{ltb-true, leb-true, eqb-true, lt-ltb, le-leb, eq-eqb}
 use lib.Dec.{ltb, leb}
-use lib.ListN.{length, getD, List·getD-eq-default}
+use lib.ListN.{length, List·getD-eq-default}
 use Rattle.model.specs.Tests.{fork, all, also-true, true-also, all-true, true-all, every-true, true-every}
 use Rattle.model.specs.Problem.{Action, action, Node, terminal, decision, Problem, Cell, cell, states, nodeAt, actionAt, cellOf, solved, _∈_, here, there}
 use Rattle.model.specs.QValue.{ceiling}
 use Rattle.model.specs.Questions.{costsInRange, chosenInRange, cellInRange, question5, ascending, successorsInOrder, question6, valueUnder, question7, allSolved, passedBy, markEarned, question8}
-use Rattle.layout.specs.Shape.{NodeShaped, NodesShaped, ChosenShaped}
+use Rattle.layout.proofs.Shapes.{node-shaped}
+use Rattle.layout.specs.Shape.{NodeShaped, ChosenShaped}
 use Rattle.theory.specs.Consistent.{WellFormed, Sound, Consistent}
 use Rattle.theory.specs.Asked.{Asked}
 use Rattle.theory.proofs.Basics.{clash, lt-or-le}
-
-pub node-shaped : (ns : List Node) → NodesShaped ns → (s : ℕ) → NodeShaped (getD ns s (terminal 0))
-node-shaped [] h s = tt
-node-shaped (n ∷ ns) h zero = h .0
-node-shaped (n ∷ ns) h (suc s) = node-shaped ns (h .1) s
 
 ascending-in : (low n : ℕ) (ts : List ℕ) → ascending low n ts ≡ true → (t : ℕ) → t ∈ ts → (low < t) × (t < n)
 unfolding ascending

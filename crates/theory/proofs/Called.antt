@@ -15,12 +15,13 @@ use Rattle.model.specs.Optimal.{sumBelow}
 use Rattle.model.specs.Report.{cellsAfter, refused, finished, onRefusal, answerTo, bytesAfter}
 use Rattle.model.specs.Calls.{Call, after, afterAll, answers, raisesIn}
 use Rattle.layout.specs.Shape.{Bytes, NodeShaped}
+use Rattle.layout.proofs.Shapes.{node-shaped}
 use Rattle.layout.proofs.Places.{write-length}
 use Rattle.layout.proofs.Stay.{FitsField, write-bytes}
 use Rattle.theory.specs.Consistent.{WellFormed, Consistent}
 use Rattle.theory.proofs.Leads.{solved-of}
 use Rattle.theory.proofs.Work.{work-does}
-use Rattle.theory.proofs.Accepted.{node-shaped, asked-problem, asked-cells, still-asked}
+use Rattle.theory.proofs.Accepted.{asked-problem, asked-cells, still-asked}
 use Rattle.theory.proofs.Sheets.{Stands, stands-problem, stands-cells}
 
 -- What a call answers and leaves, by its refusal.

@@ -4,7 +4,7 @@ use mathlib.Core.List.{List}
 use mathlib.Core.Path.{_≡_, _∙_, sym}
 use native.Mathlib.Omega.{arith}
 use borrow.Author.Needs.{needs}
-use borrow.Author.Tests.{eqb-true}
+use borrow.Author.Tests.{eqb-true, eqb-false}
 use borrow.Fn.Kinds.{In}
 use borrow.Fn.PlainCycle.{Measures, is, falls, and}
 use lib.ListN.{length, getD}
@@ -12,14 +12,14 @@ use Rattle.model.specs.Ldfs.{visit as visit-of}
 use Rattle.model.specs.Problem.{Problem, states, actionAt}
 use Rattle.model.specs.Read.{problemOf, cellsOf}
 use Rattle.sheet.specs.Sheet.{Sheet, Terminal}
-use Rattle.sheet.proofs.Laws.{problem-is, within, state-below, sheet-length, is-terminal, terminal-tag, actionsAt}
+use Rattle.sheet.proofs.Laws.{problem-is, within, state-below, sheet-length, is-terminal, terminal-tag, actionsAt, not-terminal}
 use Rattle.theory.specs.Consistent.{WellFormed}
 use Rattle.theory.proofs.Turns.{visit-solved, visit-terminal}
 use Rattle.ldfs.specs.declared.visits.Visited.{Visited}
 use Rattle.ldfs.specs.Did.{Did}
 use Rattle.ldfs.proofs.Actions.{Turn, turn-is, turn-fits, turn-priced, turn-count, turn-few, turn-later}
 use Rattle.ldfs.proofs.Updates.{did, also-said}
-use Rattle.ldfs.proofs.Trying.{reached, visiting, any-depth, workable, not-terminal, back, Opened, Acting, Trying, Tried, begins, is-open, stands, fails, tries, skips, passes-quietly, passes-priced, abandons-dear, abandons-failed, halts, succeeds}
+use Rattle.ldfs.proofs.Trying.{reached, visiting, any-depth, workable, back, Opened, Acting, Trying, Tried, begins, is-open, stands, fails, tries, skips, passes-quietly, passes-priced, abandons-dear, abandons-failed, halts, succeeds}
 use Rattle.sheet.proofs.fields.action_here.Reads as action-here-reads
 use Rattle.sheet.proofs.fields.first_action.Reads as first-action-reads
 use Rattle.sheet.proofs.fields.is_terminal.Reads as is-terminal-reads
@@ -120,7 +120,7 @@ opened-at t c p h =
       same = rw z at (pre .1 .0 .same);
       ready = record { consistent = rw z at (pre .1 .0 .consistent); within = pre .1 .1 };
       below = below;
-      tag = rw z at (not-terminal _ (sym (c .before .is-terminal .ensures) ∙ c .if2 .left));
+      tag = rw z at (not-terminal _ (eqb-false _ _ (sym (c .before .is-terminal .ensures) ∙ c .if2 .left)));
       unsolved = sym (c .before .before .before .before .solved-at .ensures) ∙ c .before .before .before .if1 .left;
     }
 
