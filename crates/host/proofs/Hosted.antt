@@ -1,0 +1,120 @@
+-- What a call leaves does not depend on how many entries above 1,024 its table has; and the host's function by the lengths of its slices.
+use Prim.Native.Nat.{ℕ, zero, suc, _+_, _-_, _*_, _<_, _≤_}
+use mathlib.Core.Path.{_≡_, refl, ap, sym, _∙_}
+use mathlib.Core.Bool.{Bool, true, false}
+use mathlib.Core.List.{List, [], _∷_, _++_, append-assoc}
+use native.Mathlib.Omega.{arith}
+use borrow.Author.Tests.{le-leb, lt-leb, leb-true}
+use lib.Dec.{eqb}
+use lib.ListN.{length, drop, replicate, length-append, length-replicate, replicate-append-replicate}
+use Rattle.model.specs.declared.Answer.{Answer}
+use Rattle.model.specs.Tests.{all-true}
+use Rattle.model.specs.Problem.{states}
+use Rattle.model.specs.Format.{terminalTag, be16, offsetsFrom}
+use Rattle.model.specs.Read.{tag, nodesRead, problemOf}
+use Rattle.model.specs.Questions.{question1, question3, question9, sheetQuestions, firstNo, refusal, none-no}
+use Rattle.model.specs.Report.{number, refused, onRefusal, answerTo, bytesAfter, indexTable, refusedTable, tableAfter}
+use Rattle.ldfs.proofs.Solving.{Solved}
+use Rattle.layout.proofs.Index.{offsets-count}
+use Rattle.host.specs.Host.{le64, entryBytes, lengthened, entries, hostNumber, hostSheet, hostTable, hostResult}
+
+-- a list filled up with zeros
+filled-none : (n : ℕ) → lengthened [] n ≡ replicate n 0
+unfolding lengthened
+filled-none zero = refl
+filled-none (suc n) = ap (λ (l : List ℕ). 0 ∷ l) (filled-none n)
+
+filled : (xs : List ℕ) (n : ℕ) → length xs ≤ n → lengthened xs n ≡ xs ++ replicate (n - length xs) 0
+unfolding lengthened
+filled [] n h = let z : n - 0 ≡ n = omega arith in rw z (filled-none n)
+filled (x ∷ xs) zero h = absurd (omega arith)
+filled (x ∷ xs) (suc n) h = let z : suc n - suc (length xs) ≡ n - length xs = omega arith in rw z (ap (λ (l : List ℕ). x ∷ l) (filled xs n (omega arith)))
+
+filled-index : (ps : List ℕ) (m n : ℕ) → length ps ≤ m → m ≤ n → ps ++ replicate (n - length ps) 0 ≡ lengthened (ps ++ replicate (m - length ps) 0) n
+filled-index ps m n few le =
+    let long : length (ps ++ replicate (m - length ps) 0) ≡ m = rw (length-append, length-replicate) (omega arith) in
+    let z : m - length ps + (n - m) ≡ n - length ps = omega arith in
+    sym (filled (ps ++ replicate (m - length ps) 0) n (omega arith) ∙ rw (long, append-assoc, replicate-append-replicate, z))
+
+filled-zeros : (m n : ℕ) → m ≤ n → replicate n 0 ≡ lengthened (replicate m 0) n
+filled-zeros m n le = let z : m + (n - m) ≡ n = omega arith in sym (filled (replicate m 0) n (rw length-replicate le) ∙ rw (length-replicate, replicate-append-replicate, z))
+
+nodes-count : (n : ℕ) (r : List ℕ) → length (nodesRead n r) ≡ n
+unfolding nodesRead
+nodes-count zero r = refl
+nodes-count (suc n) r = go (eqb (tag r) terminalTag) refl (nodes-count n)
+  where
+    go : (b : Bool) → eqb (tag r) terminalTag ≡ b → ((r′ : List ℕ) → length (nodesRead n r′) ≡ n) → length (nodesRead (suc n) r) ≡ suc n
+    go true e more = rw e (ap suc (more _))
+    go false e more = rw e (ap suc (more _))
+
+few-stages : (s : List ℕ) → question3 s ≡ true → states (problemOf s) ≤ 1024
+unfolding question3 problemOf
+few-stages s h = omega (arith, nodes-count (be16 s 4) (drop 8 s), leb-true, all-true _ h)
+
+-- what a refused call leaves of zeros
+cleared : (n k : ℕ) → refusedTable (replicate n 0) k ≡ replicate n 0
+unfolding refusedTable
+cleared n zero = refl
+cleared n (suc zero) = refl
+cleared n (suc (suc k)) = rw length-replicate
+
+module _ (s : List ℕ) (budget : ℕ) where
+  refused-short : (n : ℕ) → n < 1024 → refusal s n budget ≡ 1
+  unfolding refusal firstNo question1
+  refused-short n h = rw (lt-leb 1024 n h)
+
+  module _ (m n : ℕ) (enough : 1024 ≤ m) (le : m ≤ n) where
+    same-refusal : refusal s n budget ≡ refusal s m budget
+    unfolding refusal firstNo question1
+    same-refusal = rw (le-leb 1024 n (omega arith), le-leb 1024 m enough)
+
+    same-answer : answerTo s m budget ≡ answerTo s n budget
+    unfolding answerTo
+    same-answer = rw same-refusal
+
+    same-bytes : bytesAfter s m budget ≡ bytesAfter s n budget
+    unfolding bytesAfter
+    same-bytes = rw same-refusal
+
+    few-states : refusal s m budget ≡ 0 → states (problemOf s) ≤ m
+    unfolding refusal
+    few-states e =
+        let y = none-no 0 ((λ _. question1 m) ∷ sheetQuestions s ++ ((λ _. question9 budget) ∷ [])) e in
+        omega (arith, few-stages s (y .1 .1 .0))
+
+    same-table : tableAfter s (replicate n 0) budget ≡ lengthened (tableAfter s (replicate m 0) budget) n
+    unfolding tableAfter onRefusal indexTable
+    same-table = rw (length-replicate {A = ℕ} n 0, length-replicate {A = ℕ} m 0, same-refusal) (go (refusal s m budget) refl)
+      where
+        go : (k : ℕ) → refusal s m budget ≡ k → onRefusal k (λ _. indexTable (problemOf s) n) (refusedTable (replicate n 0)) ≡ lengthened (onRefusal k (λ _. indexTable (problemOf s) m) (refusedTable (replicate m 0))) n
+        go zero e = let h : length (offsetsFrom 8 (problemOf s .nodes)) ≡ states (problemOf s) = offsets-count 8 (problemOf s .nodes) in rw (← h) (filled-index (offsetsFrom 8 (problemOf s .nodes)) m n (rw h (few-states e)) le)
+        go (suc k) e = rw (cleared n (suc k), cleared m (suc k)) (filled-zeros m n le)
+
+-- what `ldfs_solve` promises of the number, of the sheet, of the table and of the result
+abbrev pub Hosted : List ℕ → List ℕ → ℕ → List ℕ → ℕ → List ℕ → List ℕ → List ℕ → Type 0
+Hosted s t budget r k s′ t′ r′ = (k ≡ hostNumber s t budget r) × ((s′ ≡ hostSheet s t budget r) × ((t′ ≡ hostTable s t budget r) × (r′ ≡ hostResult s t budget r)))
+
+-- what `put_answer` leaves
+abbrev Told : List ℕ → Answer → List ℕ
+Told r a = (le64 (a .price) ++ (le64 (a .passes) ++ le64 (a .raises))) ++ drop 24 r
+
+module _ (s t : List ℕ) (budget : ℕ) (r : List ℕ) where
+  pub no-room : length r < 24 → Hosted s t budget r 1 s t r
+  unfolding hostNumber hostSheet hostTable hostResult
+  no-room h = rw (lt-leb 24 (length r) h) (refl, (refl, (refl, refl)))
+
+  module _ (room : 24 ≤ length r) (a : Answer) (r′ : List ℕ) (told : r′ ≡ Told r a) where
+    pub short-table : length t < 4096 → a ≡ refused 1 → Hosted s t budget r 1 s t r′
+    unfolding hostNumber hostSheet hostTable hostResult answerTo bytesAfter onRefusal
+    short-table h e =
+        let few : entries t < 1024 = omega arith in let no : refusal s (entries t) budget ≡ 1 = refused-short s budget (entries t) few in
+        rw (le-leb 24 (length r) room, no, lt-leb 1024 (entries t) few) (refl, (refl, (refl, told ∙ rw e)))
+
+    pub long-table : (m : ℕ) → 1024 ≤ m → m ≤ entries t → (s′ w t′ : List ℕ) (k : ℕ) → Solved s (replicate m 0) budget a s′ w → t′ ≡ entryBytes (lengthened w (entries t)) ++ drop (4 * entries t) t → k ≡ number (a .outcome) →
+        Hosted s t budget r k s′ t′ r′
+    unfolding hostNumber hostSheet hostTable hostResult
+    long-table m enough le s′ w t′ k solved put e =
+        let answer : a ≡ answerTo s (entries t) budget = solved .0 ∙ rw length-replicate (same-answer s budget m (entries t) enough le) in
+        let sheet : s′ ≡ bytesAfter s (entries t) budget = solved .1 .0 ∙ rw length-replicate (same-bytes s budget m (entries t) enough le) in
+        rw (le-leb 24 (length r) room, le-leb 1024 (entries t) (omega arith), same-table s budget m (entries t) enough le, ← answer, ← sheet, ← (solved .1 .1)) (e, (refl, (put, told)))

@@ -1,0 +1,26 @@
+use Prim.Native.Nat.{_/_, _%_}
+use mathlib.Core.Path.{refl}
+use borrow.Author.Needs.{needs}
+use Rattle.host.specs.Host.{le32}
+use Rattle.host.proofs.Bytes.{put-behind}
+use Rattle.host.proofs.put64.Statement.{statement}
+use Rattle.host.proofs.put64.Tie as tie
+
+put32-requires : tie.Need-put32-requires
+put32-requires c κs = search needs
+
+add-put32 : tie.Need-add-put32
+add-put32 c = search needs
+
+put32-requires-2 : tie.Need-put32-requires-2
+put32-requires-2 c κs = search needs
+
+same-length : tie.Need-same-length
+same-length c = search needs
+
+returns : tie.Need-returns
+returns c =
+    let a = c .before .before .before .before .before .before .before .before .before .args in put-behind (a .s .now) _ _ (le32 (a .x % 4294967296)) (le32 (a .x / 4294967296)) (a .at) 4 4 (c .before .before .before .before .before .before .before .before .before .pre) refl (c .before .before .before .before .before .before .put32 .ensures) (c .before .before .put322 .ensures)
+
+pub put64-spec : {M : Type 1} → statement M
+put64-spec = tie.close (tie.spec put32-requires add-put32 put32-requires-2 same-length returns)

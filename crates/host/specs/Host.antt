@@ -1,0 +1,56 @@
+-- What the host's function returns and leaves: document 01's host paragraph. The table passes as bytes, four an entry, least significant first.
+use Prim.Native.Nat.{ℕ, zero, suc, _*_, _/_, _%_}
+use mathlib.Core.Bool.{Bool}
+use mathlib.Core.List.{List, [], _∷_, _++_}
+use lib.Dec.{leb}
+use lib.ListN.{length, drop, replicate}
+use Rattle.model.specs.Tests.{fork}
+use Rattle.model.specs.Report.{number, answerTo, bytesAfter, tableAfter}
+
+-- numbers, least significant byte first
+abbrev pub le32 : ℕ → List ℕ
+le32 x = x % 256 ∷ x / 256 % 256 ∷ x / 65536 % 256 ∷ x / 16777216 % 256 ∷ []
+
+abbrev pub le64 : ℕ → List ℕ
+le64 x = le32 (x % 4294967296) ++ le32 (x / 4294967296)
+
+-- the bytes of a table's entries
+unfoldable pub entryBytes : List ℕ → List ℕ
+entryBytes [] = []
+entryBytes (x ∷ xs) = le32 x ++ entryBytes xs
+
+-- a table's content cut or filled up with zeros to n entries
+unfoldable pub lengthened : List ℕ → ℕ → List ℕ
+lengthened t zero = []
+lengthened [] (suc n) = 0 ∷ lengthened [] n
+lengthened (x ∷ xs) (suc n) = x ∷ lengthened xs n
+
+-- the number of whole entries that a table's bytes hold
+abbrev pub entries : List ℕ → ℕ
+entries t = length t / 4
+
+-- has the result room for price, passes and raises?
+abbrev pub room : List ℕ → Bool
+room r = leb 24 (length r)
+
+-- the number returned: a refusal's own, 1 too where the result is too short, or 100 settled, 101 over, 102 stopped
+unfoldable pub hostNumber : List ℕ → List ℕ → ℕ → List ℕ → ℕ
+hostNumber s t budget r = fork (room r) (λ _. number (answerTo s (entries t) budget .outcome)) (λ _. 1)
+
+-- the sheet's bytes after
+unfoldable pub hostSheet : List ℕ → List ℕ → ℕ → List ℕ → List ℕ
+hostSheet s t budget r = fork (room r) (λ _. bytesAfter s (entries t) budget) (λ _. s)
+
+-- the table's bytes after: unaltered where it is too short, else each entry's four bytes, with up to three bytes left over at the end untouched
+unfoldable pub hostTable : List ℕ → List ℕ → ℕ → List ℕ → List ℕ
+hostTable s t budget r =
+    fork (room r)
+    (λ _. fork (leb 1024 (entries t)) (λ _. entryBytes (tableAfter s (replicate (entries t) 0) budget) ++ drop (4 * entries t) t) (λ _. t))
+    (λ _. t)
+
+-- the result's bytes after: price, passes and raises in the first 24, the rest untouched
+unfoldable pub hostResult : List ℕ → List ℕ → ℕ → List ℕ → List ℕ
+hostResult s t budget r =
+    fork (room r)
+    (λ _. (le64 (answerTo s (entries t) budget .price) ++ (le64 (answerTo s (entries t) budget .passes) ++ le64 (answerTo s (entries t) budget .raises))) ++ drop 24 r)
+    (λ _. r)

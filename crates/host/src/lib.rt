@@ -1,0 +1,107 @@
+// The one function that a terminal's host program calls.
+ghost use mathlib.Core.Path.{_≡_};
+ghost use mathlib.Core.List.{List, _++_};
+ghost use Prim.Native.Nat.{ℕ, _+_, _*_, _%_, _<_, _≤_};
+ghost use lib.ListN.{length, getD, take, drop};
+ghost use Rattle.model.specs.Report.{number};
+ghost use Rattle.host.specs.Host.{le32, le64, entries, entryBytes, lengthened, hostNumber, hostSheet, hostTable, hostResult};
+use ldfs::refusal;
+use ldfs::solve;
+use model::Answer;
+use model::Outcome;
+
+// The low eight bits of a number.
+pub fn low(x: u64) -> u8
+    ensures { λ r. ⌜ r ≡ x % 256 ⌝ }
+{
+    (x % 256) as u8
+}
+
+// Four bytes of a slice become a number, least significant first.
+pub fn put32(s: &mut [u8], at: usize, x: u64)
+    requires { ⌜ (at + 4 ≤ length (now s)) × (x < 4294967296) ⌝ }
+    ensures { λ _. ⌜ now (s .exit) ≡ take at (now (s .entry)) ++ (le32 x ++ drop (at + 4) (now (s .entry))) ⌝ }
+{
+    s[at] = low(x);
+    s[at + 1] = low(x / 256);
+    s[at + 2] = low(x / 65536);
+    s[at + 3] = low(x / 16777216);
+}
+
+// Eight bytes of a slice become a number, least significant first.
+pub fn put64(s: &mut [u8], at: usize, x: u64)
+    requires { ⌜ at + 8 ≤ length (now s) ⌝ }
+    ensures { λ _. ⌜ now (s .exit) ≡ take at (now (s .entry)) ++ (le64 x ++ drop (at + 8) (now (s .entry))) ⌝ }
+{
+    put32(s, at, x % 4294967296);
+    put32(s, at + 4, x / 4294967296);
+}
+
+// Price, passes and raises become the first 24 bytes of the result.
+pub fn put_answer(result: &mut [u8], a: Answer)
+    requires { ⌜ 24 ≤ length (now result) ⌝ }
+    ensures { λ _. ⌜ now (result .exit) ≡ (le64 (a .price) ++ (le64 (a .passes) ++ le64 (a .raises))) ++ drop 24 (now (result .entry)) ⌝ }
+{
+    put64(result, 0, a.price);
+    put64(result, 8, a.passes);
+    put64(result, 16, a.raises);
+}
+
+// Entry i of the index table, 0 past its end.
+pub fn entry(table: &[u32], i: usize) -> u64
+    ensures { λ r. ⌜ (r ≡ getD (now (table .entry)) i 0) × (r < 4294967296) ⌝ }
+{
+    if i < table.len() { table[i] as u64 } else { 0 }
+}
+
+// The entries of the index table as bytes, as far as whole entries go.
+pub fn put_table(bytes: &mut [u8], table: &[u32; 1024])
+    ensures { λ _. ⌜ now (bytes .exit) ≡ entryBytes (lengthened (now (table .entry)) (entries (now (bytes .entry)))) ++ drop (4 * entries (now (bytes .entry))) (now (bytes .entry)) ⌝ }
+{
+    let n = bytes.len() / 4;
+    let mut i: usize = 0;
+    while i < n {
+        put32(bytes, 4 * i, entry(table, i));
+        i += 1;
+    }
+}
+
+// The number of an outcome.
+pub fn outcome_number(o: Outcome) -> u32
+    ensures { λ r. ⌜ r ≡ number o ⌝ }
+{
+    match o {
+        Outcome::Refused(n) => n,
+        Outcome::Settled => 100,
+        Outcome::Over => 101,
+        Outcome::Stopped => 102,
+    }
+}
+
+// Works a sheet. See include/ldfs.h. Whatever the slices hold, they are left as document 01 says, and the number says how the call ended.
+#[no_mangle]
+pub extern "C" fn ldfs_solve(
+    sheet: &mut [u8],
+    table: &mut [u8],
+    budget: u64,
+    result: &mut [u8],
+) -> u32
+    ensures number { λ r. ⌜ r ≡ hostNumber (now (sheet .entry)) (now (table .entry)) budget (now (result .entry)) ⌝ }
+    ensures sheet { λ _. ⌜ now (sheet .exit) ≡ hostSheet (now (sheet .entry)) (now (table .entry)) budget (now (result .entry)) ⌝ }
+    ensures table { λ _. ⌜ now (table .exit) ≡ hostTable (now (sheet .entry)) (now (table .entry)) budget (now (result .entry)) ⌝ }
+    ensures result { λ _. ⌜ now (result .exit) ≡ hostResult (now (sheet .entry)) (now (table .entry)) budget (now (result .entry)) ⌝ }
+{
+    if result.len() < 24 {
+        return 1;
+    }
+    if table.len() < 4096 {
+        put_answer(result, refusal(1));
+        return 1;
+    }
+    let mut index = [0u32; 1024];
+    let a = solve(sheet, &mut index, budget);
+    put_table(table, &index);
+    put_answer(result, a);
+    let o = a.outcome;
+    outcome_number(o)
+}
