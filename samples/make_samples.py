@@ -1,0 +1,118 @@
+#!/usr/bin/env python3
+"""Writes the sample sheets of this folder. They are always the same, to the byte.
+
+    python3 samples/make_samples.py
+
+The bytes are put together from document 01's table of fields alone: nothing here prices, works or checks a sheet.
+"""
+
+from pathlib import Path
+
+WORST, WHOLE = 0, 1
+OPEN, SETTLED = 0, 1
+
+
+def field(tag, content):
+    return bytes([tag]) + len(content).to_bytes(2, "big") + content
+
+
+def head(kind, stages, start=0):
+    return field(1, bytes([kind]) + stages.to_bytes(2, "big") + start.to_bytes(2, "big"))
+
+
+def ending(cost, value=0, mark=OPEN):
+    return field(2, cost.to_bytes(4, "big") + value.to_bytes(4, "big") + bytes([mark]))
+
+
+def check(cost, findings):
+    return field(4, cost.to_bytes(4, "big") + b"".join(f.to_bytes(2, "big") for f in findings))
+
+
+def junction(checks, value=0, mark=OPEN, chosen=0):
+    own = field(3, value.to_bytes(4, "big") + bytes([mark, chosen]))
+    return own + b"".join(check(cost, findings) for cost, findings in checks)
+
+
+def sheet(kind, stages):
+    return head(kind, len(stages)) + b"".join(stages)
+
+
+def sheet_a(first_cost=200):
+    """Document 01's sheet A, whose first check costs 200."""
+    return sheet(WORST, [
+        junction([(first_cost, [1, 3]), (500, [3])]),
+        junction([(400, [2, 3])]),
+        ending(100),
+        ending(0),
+    ])
+
+
+def sheet_b(kind=WORST, value=0, first_finding=1, mark=OPEN):
+    """Document 01's sheet B, with its junction's value, its first finding and the mark of ending 1."""
+    return sheet(kind, [
+        junction([(100, [first_finding, 2])], value=value),
+        ending(30, mark=mark),
+        ending(50),
+    ])
+
+
+class Draws:
+    """Park and Miller's numbers: each is 16,807 times the one before, modulo 2,147,483,647."""
+
+    def __init__(self, first):
+        self.last = first
+
+    def below(self, limit):
+        self.last = self.last * 16807 % 2147483647
+        return self.last % limit
+
+
+def forty():
+    """Forty junctions with four checks each, then twenty-four endings: the repairs.
+
+    A check costs 9.00 to 120.00 in steps of 3.00 and leads to two to four later stages: junctions at most nine numbers on, and from
+    junction 24 on repairs too. A repair costs 20.00 to 640.00 in steps of 20.00.
+    """
+    draws = Draws(40)
+    junctions, endings = 40, 24
+    stages = []
+    for number in range(junctions):
+        checks = []
+        for _ in range(4):
+            findings = set()
+            for _ in range(2 + draws.below(3)):
+                later = number + 1 + draws.below(9)
+                repair = junctions + draws.below(endings)
+                narrowed = draws.below(2) == 0 and number >= 24
+                findings.add(repair if narrowed or later >= junctions else later)
+            checks.append(((9 + 3 * draws.below(38)) * 100, sorted(findings)))
+        stages.append(junction(checks))
+    stages += [ending((20 + 20 * draws.below(32)) * 100) for _ in range(endings)]
+    return sheet(WORST, stages)
+
+
+SAMPLES = {
+    "a.sheet": sheet_a(),
+    "b-worst.sheet": sheet_b(WORST),
+    "b-whole.sheet": sheet_b(WHOLE),
+    "forty.sheet": forty(),
+    # one for each refusal that a sheet alone can get
+    "refused-2.sheet": sheet(WORST, [ending(0)])[:19],
+    "refused-3.sheet": head(WORST, 0) + sheet_b()[8:],
+    "refused-4.sheet": sheet_a(first_cost=0)[:-1],
+    "refused-5.sheet": sheet_a(first_cost=0),
+    "refused-6.sheet": sheet_b(first_finding=0),
+    "refused-7.sheet": sheet_b(value=101),
+    "refused-8.sheet": sheet_b(mark=SETTLED),
+}
+
+
+def main():
+    folder = Path(__file__).resolve().parent
+    for name, content in SAMPLES.items():
+        (folder / name).write_bytes(content)
+        print(name, len(content), "bytes")
+
+
+if __name__ == "__main__":
+    main()

@@ -1,0 +1,112 @@
+//! The static library beside a plain Rust copy and a plain C copy, on the same sheets, in one run.
+//!
+//! The sheet is copied afresh for every call, outside the measured time; the table and the result are cleared before each batch of
+//! calls, also outside, and not between its calls. Rounds of the three follow one another, and the quickest round of each counts.
+
+mod plain;
+mod sheets;
+
+use sheets::Sample;
+use std::thread;
+use std::time::{Duration, Instant};
+
+type Solve = fn(&mut [u8], &mut [u8], u64, &mut [u8]) -> u32;
+type Raw = unsafe extern "C" fn(*mut u8, usize, *mut u8, usize, u64, *mut u8, usize) -> u32;
+
+extern "C" {
+    fn ldfs_solve(s: *mut u8, sl: usize, t: *mut u8, tl: usize, budget: u64, r: *mut u8, rl: usize) -> u32;
+    fn plain_solve(s: *mut u8, sl: usize, t: *mut u8, tl: usize, budget: u64, r: *mut u8, rl: usize) -> u32;
+}
+
+/// A C function on slices. Each pointer is handed over with its length, and no two slices overlap.
+fn through(raw: Raw, sheet: &mut [u8], table: &mut [u8], budget: u64, result: &mut [u8]) -> u32 {
+    let (sheet_length, table_length, result_length) = (sheet.len(), table.len(), result.len());
+    let (sheet, table, result) = (sheet.as_mut_ptr(), table.as_mut_ptr(), result.as_mut_ptr());
+    unsafe { raw(sheet, sheet_length, table, table_length, budget, result, result_length) }
+}
+
+const SOLVERS: [(&str, Solve); 3] = [
+    ("library", |s, t, b, r| through(ldfs_solve, s, t, b, r)),
+    ("plain Rust", plain::solve),
+    ("plain C", |s, t, b, r| through(plain_solve, s, t, b, r)),
+];
+
+const ROUNDS: usize = 15;
+const ROUND_TIME: Duration = Duration::from_millis(20);
+const MOST_COPIES: usize = 2_000;
+const STACK_BYTES: usize = 64 << 20;
+
+fn main() {
+    let thread = thread::Builder::new().stack_size(STACK_BYTES).spawn(run).expect("a thread starts");
+    thread.join().expect("the benchmark ends");
+}
+
+fn run() {
+    if cfg!(debug_assertions) {
+        println!("built without --release: these times say nothing");
+    }
+    println!("plain Rust: the profile of this program, release; plain C: cc -O3. All three work in place on the sheet's bytes.");
+    println!("buffers: sheet copied afresh for each call; table (4,096 bytes) and result cleared before each batch of calls;");
+    println!("         both outside the measured time. Each time is one call, the quickest of {ROUNDS} rounds.\n");
+    println!(
+        "{:<30} {:>7} {:>7} {:>8} {:>12} {:>12} {:>12} {:>9} {:>9}",
+        "sheet", "bytes", "passes", "raises", "library", "plain Rust", "plain C", "lib/Rust", "lib/C"
+    );
+    for sample in sheets::all() {
+        measure(&sample);
+    }
+}
+
+fn measure(sample: &Sample) {
+    let (passes, raises) = same_answers(sample);
+    let copies = copies_for(sample);
+    let mut best = [Duration::MAX; SOLVERS.len()];
+    for _ in 0..ROUNDS {
+        for (place, (_, solve)) in SOLVERS.iter().enumerate() {
+            best[place] = best[place].min(batch(*solve, sample, copies));
+        }
+    }
+    let [library, rust, c] = best.map(|time| time.as_secs_f64() * 1e6 / copies as f64);
+    println!(
+        "{:<30} {:>7} {passes:>7} {raises:>8} {library:>9.2} us {rust:>9.2} us {c:>9.2} us {:>9.2} {:>9.2}",
+        sample.name,
+        sample.bytes.len(),
+        library / rust,
+        library / c
+    );
+}
+
+/// So many calls, each on a fresh copy of the sheet.
+fn batch(solve: Solve, sample: &Sample, copies: usize) -> Duration {
+    let mut sheets: Vec<Vec<u8>> = (0..copies).map(|_| sample.bytes.clone()).collect();
+    let (mut table, mut result) = ([0; 4096], [0; 24]);
+    let began = Instant::now();
+    for sheet in &mut sheets {
+        solve(sheet, &mut table, u64::MAX, &mut result);
+    }
+    began.elapsed()
+}
+
+/// As many copies as the plain C copy works in about the time of a round.
+fn copies_for(sample: &Sample) -> usize {
+    let (_, plain_c) = SOLVERS[2];
+    let once = batch(plain_c, sample, 1).max(Duration::from_nanos(100));
+    (ROUND_TIME.as_nanos() / once.as_nanos()).clamp(1, MOST_COPIES as u128) as usize
+}
+
+/// All three, and `procedure`, leave the same bytes, table and result. Passes and raises.
+fn same_answers(sample: &Sample) -> (u64, u64) {
+    let answer = |solve: Solve| {
+        let mut sheet = sample.bytes.clone();
+        let (mut table, mut result) = ([7; 4096], [7; 24]);
+        let number = solve(&mut sheet, &mut table, u64::MAX, &mut result);
+        (number, result, sheet, table)
+    };
+    let expected = answer(procedure::call);
+    assert!(expected.0 == 100, "{}: returned {}", sample.name, expected.0);
+    for (name, solve) in SOLVERS {
+        assert!(answer(solve) == expected, "{}: {name} differs from procedure", sample.name);
+    }
+    let number = |at: usize| u64::from_le_bytes(expected.1[at..at + 8].try_into().expect("eight bytes"));
+    (number(8), number(16))
+}

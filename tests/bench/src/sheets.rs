@@ -1,0 +1,143 @@
+//! The sheets that are measured. Every one is the same in every run.
+
+/// A sheet and its name.
+pub struct Sample {
+    pub name: &'static str,
+    pub bytes: Vec<u8>,
+}
+
+pub fn all() -> Vec<Sample> {
+    let sample = |name, bytes| Sample { name, bytes };
+    vec![
+        sample("sheet A", include_bytes!("../../../samples/a.sheet").to_vec()),
+        sample("forty junctions", include_bytes!("../../../samples/forty.sheet").to_vec()),
+        sample("60,000 bytes, worst, one pass", at_least_costs(full_size(0))),
+        sample("60,000 bytes, whole, one pass", at_least_costs(full_size(1))),
+        sample("many raises, worst", many_raises(0)),
+        sample("many raises, whole", many_raises(1)),
+        sample("1,000-deep chain, one pass", at_least_costs(chain())),
+        sample("1,000-deep chain, blank", chain()),
+    ]
+}
+
+/// Park and Miller's numbers.
+struct Draws(u64);
+
+impl Draws {
+    fn below(&mut self, limit: usize) -> usize {
+        self.0 = self.0 * 16_807 % 2_147_483_647;
+        self.0 as usize % limit
+    }
+}
+
+fn push(bytes: &mut Vec<u8>, tag: u8, content: &[u8]) {
+    bytes.push(tag);
+    bytes.extend((content.len() as u16).to_be_bytes());
+    bytes.extend(content);
+}
+
+fn head(kind: u8, states: usize) -> Vec<u8> {
+    let mut bytes = Vec::new();
+    let [high, low] = (states as u16).to_be_bytes();
+    push(&mut bytes, 1, &[kind, high, low, 0, 0]);
+    bytes
+}
+
+fn push_terminal(bytes: &mut Vec<u8>, cost: usize) {
+    let [a, b, c, d] = (cost as u32).to_be_bytes();
+    push(bytes, 2, &[a, b, c, d, 0, 0, 0, 0, 0]);
+}
+
+fn push_decision(bytes: &mut Vec<u8>) {
+    push(bytes, 3, &[0; 6]);
+}
+
+fn push_action(bytes: &mut Vec<u8>, cost: usize, mut successors: Vec<usize>) {
+    successors.sort();
+    let mut content = (cost as u32).to_be_bytes().to_vec();
+    for successor in successors {
+        content.extend((successor as u16).to_be_bytes());
+    }
+    push(bytes, 4, &content);
+}
+
+/// 800 junctions with four checks each and 200 endings. A check leads to one later junction, on worst sheets to two, and else to
+/// endings: 4 findings, and 5 at the first 299 junctions, which makes 60,000 bytes.
+fn full_size(kind: u8) -> Vec<u8> {
+    const JUNCTIONS: usize = 800;
+    const ENDINGS: usize = 200;
+    let mut draws = Draws(60_000);
+    let mut bytes = head(kind, JUNCTIONS + ENDINGS);
+    for number in 0..JUNCTIONS {
+        push_decision(&mut bytes);
+        for _ in 0..4 {
+            let findings = if number < 299 { 5 } else { 4 };
+            let mut successors = Vec::new();
+            for place in 0..findings {
+                let later = number + 1 + draws.below(6);
+                let repair = JUNCTIONS + 40 * place + draws.below(40);
+                let leads_on = place == 0 || place == 1 && kind == 0 && later != successors[0];
+                successors.push(if leads_on && later < JUNCTIONS { later } else { repair });
+            }
+            push_action(&mut bytes, 100 + draws.below(2_000), successors);
+        }
+    }
+    for _ in 0..ENDINGS {
+        push_terminal(&mut bytes, draws.below(5_000));
+    }
+    bytes
+}
+
+/// 160 junctions with three checks each and 40 endings, blank, with costs of a few cents: values rise in small steps.
+fn many_raises(kind: u8) -> Vec<u8> {
+    const JUNCTIONS: usize = 160;
+    const ENDINGS: usize = 40;
+    let mut draws = Draws(7);
+    let mut bytes = head(kind, JUNCTIONS + ENDINGS);
+    for number in 0..JUNCTIONS {
+        push_decision(&mut bytes);
+        for _ in 0..3 {
+            let near = number + 1 + draws.below(2);
+            let far = number + 3 + draws.below(3);
+            let repair = JUNCTIONS + draws.below(ENDINGS);
+            let mut successors = vec![near.min(JUNCTIONS), repair.max(JUNCTIONS + 1)];
+            if kind == 0 && far < JUNCTIONS {
+                successors.push(far);
+            }
+            push_action(&mut bytes, 1 + draws.below(20), successors);
+        }
+    }
+    for _ in 0..ENDINGS {
+        push_terminal(&mut bytes, draws.below(30));
+    }
+    bytes
+}
+
+/// 1,000 junctions, each with one check that leads to the next, and an ending.
+fn chain() -> Vec<u8> {
+    const JUNCTIONS: usize = 1_000;
+    let mut bytes = head(0, JUNCTIONS + 1);
+    for number in 0..JUNCTIONS {
+        push_decision(&mut bytes);
+        push_action(&mut bytes, 10 + number % 7, vec![number + 1]);
+    }
+    push_terminal(&mut bytes, 500);
+    bytes
+}
+
+/// The sheet with every value at its least cost, all open: work settles in one pass, without a raise.
+fn at_least_costs(mut bytes: Vec<u8>) -> Vec<u8> {
+    let sheet = sweep::read(&bytes).unwrap_or_else(|number| panic!("the sheet is refused {number}"));
+    let mut at = 8;
+    for cost in sheet.least_costs() {
+        let value = (cost as u32).to_be_bytes();
+        let terminal = bytes[at] == 2;
+        let place = if terminal { at + 7 } else { at + 3 };
+        bytes[place..place + 4].copy_from_slice(&value);
+        at += if terminal { 12 } else { 9 };
+        while at < bytes.len() && bytes[at] == 4 {
+            at += 3 + usize::from(bytes[at + 2]);
+        }
+    }
+    bytes
+}

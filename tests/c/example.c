@@ -1,0 +1,281 @@
+/*
+ * A host of ldfs_solve, to start from. It works sheet A, carries interrupted work on, reads the plan, and meets each refusal.
+ * It prints what it does and exits with 1 if anything is not as document 01 says. All expected numbers are from that document.
+ */
+#include "ldfs.h"
+
+#include <inttypes.h>
+#include <stdbool.h>
+#include <stdio.h>
+#include <stdlib.h>
+#include <string.h>
+
+/* The host lends these to every call. The table is longer than it has to be, and not a whole number of entries: both are allowed. */
+enum { MORE_ENTRIES = 2, LEFT_OVER = 3 };
+static uint8_t table[LDFS_TABLE_LEAST + MORE_ENTRIES * LDFS_ENTRY_BYTES + LEFT_OVER];
+static uint8_t result[LDFS_RESULT_LEAST];
+
+/* Sheet A: worst, 4 stages, start 0. */
+static const uint8_t sheet_a[] = {
+    1, 0, 5, 0, 0, 4, 0, 0,                /* head: kind 0, 4 stages, start 0 */
+    3, 0, 6, 0, 0, 0, 0, 0, 0,             /* stage 0, a junction: value 0, open, nothing chosen */
+    4, 0, 8, 0, 0, 0, 200, 0, 1, 0, 3,     /*   check 0: cost 200, findings 1 and 3 */
+    4, 0, 6, 0, 0, 1, 244, 0, 3,           /*   check 1: cost 500, finding 3 */
+    3, 0, 6, 0, 0, 0, 0, 0, 0,             /* stage 1, a junction */
+    4, 0, 8, 0, 0, 1, 144, 0, 2, 0, 3,     /*   check 0: cost 400, findings 2 and 3 */
+    2, 0, 9, 0, 0, 0, 100, 0, 0, 0, 0, 0,  /* stage 2, an ending: cost 100, value 0, open */
+    2, 0, 9, 0, 0, 0, 0, 0, 0, 0, 0, 0,    /* stage 3, an ending: cost 0 */
+};
+enum { A_STAGES = 4, A_FIRST_COST = 23, A_FIRST_MARK = 15 };
+static const uint32_t offsets_a[A_STAGES] = {8, 37, 57, 69};
+
+/* Sheet B: one junction, one check (100, findings 1 and 2), endings 30 and 50. */
+static const uint8_t sheet_b[] = {
+    1, 0, 5, 0, 0, 3, 0, 0,                /* head: kind 0, 3 stages, start 0 */
+    3, 0, 6, 0, 0, 0, 0, 0, 0,             /* stage 0 */
+    4, 0, 8, 0, 0, 0, 100, 0, 1, 0, 2,     /*   check 0 */
+    2, 0, 9, 0, 0, 0, 30, 0, 0, 0, 0, 0,   /* stage 1 */
+    2, 0, 9, 0, 0, 0, 50, 0, 0, 0, 0, 0,   /* stage 2 */
+};
+enum { B_KIND = 3, B_STAGES_LOW = 5, B_VALUE_LOW = 14, B_FINDING_LOW = 25, B_ENDING_MARK = 39 };
+
+static int failures;
+
+static void expect(bool holds, const char *what)
+{
+    if (!holds) {
+        failures++;
+        printf("  NOT AS EXPECTED: %s\n", what);
+    }
+}
+
+/* Numbers as the library writes them, least significant byte first. */
+static uint64_t little(const uint8_t *at, size_t bytes)
+{
+    uint64_t x = 0;
+    while (bytes-- > 0)
+        x = x << 8 | at[bytes];
+    return x;
+}
+
+/* Numbers of the sheet, most significant byte first. */
+static uint32_t big(const uint8_t *at, size_t bytes)
+{
+    uint32_t x = 0;
+    for (size_t i = 0; i < bytes; i++)
+        x = x << 8 | at[i];
+    return x;
+}
+
+static void put_big(uint8_t *at, uint32_t x)
+{
+    for (int i = 0; i < 4; i++)
+        at[i] = (uint8_t)(x >> (24 - 8 * i));
+}
+
+/* One call, as a host makes it. */
+static uint32_t solve(uint8_t *sheet, size_t length, uint64_t budget)
+{
+    return ldfs_solve(sheet, length, table, sizeof table, budget, result, sizeof result);
+}
+
+/* The same, with what document 01 says that it returns: the number, price, passes and raises. */
+static void solve_expecting(const char *name, uint8_t *sheet, size_t length, uint64_t budget, uint32_t number, uint64_t price,
+                            uint64_t passes, uint64_t raises)
+{
+    uint32_t returned = solve(sheet, length, budget);
+    uint64_t found_price = little(result + LDFS_RESULT_PRICE, 8);
+    uint64_t found_passes = little(result + LDFS_RESULT_PASSES, 8);
+    uint64_t found_raises = little(result + LDFS_RESULT_RAISES, 8);
+    printf("%s: %" PRIu32 " %" PRIu64 " %" PRIu64 " %" PRIu64 "\n", name, returned, found_price, found_passes, found_raises);
+    expect(returned == number, "number");
+    expect(found_price == price, "price");
+    expect(found_passes == passes, "passes");
+    expect(found_raises == raises, "raises");
+}
+
+/* Every entry of the table from number `from` on is 0, and the bytes left over at its end are as they were. */
+static void expect_rest_of_table(size_t from, uint8_t left_over)
+{
+    size_t entries = sizeof table / LDFS_ENTRY_BYTES;
+    bool zero = true;
+    for (size_t i = from * LDFS_ENTRY_BYTES; i < entries * LDFS_ENTRY_BYTES; i++)
+        zero = zero && table[i] == 0;
+    expect(zero, "entries past the last stage are 0");
+    for (size_t i = entries * LDFS_ENTRY_BYTES; i < sizeof table; i++)
+        expect(table[i] == left_over, "bytes left over are not touched");
+}
+
+/* Sheet A in one call: the price, the index table, and the plan. */
+static void sheet_a_at_once(void)
+{
+    uint8_t sheet[sizeof sheet_a];
+    memcpy(sheet, sheet_a, sizeof sheet);
+    memset(table, 7, sizeof table);
+    solve_expecting("sheet A", sheet, sizeof sheet, UINT64_MAX, LDFS_SETTLED, 500, 3, 3);
+    for (size_t i = 0; i < A_STAGES; i++)
+        expect(little(table + LDFS_ENTRY_BYTES * i, LDFS_ENTRY_BYTES) == offsets_a[i], "offset of a stage");
+    expect_rest_of_table(A_STAGES, 7);
+
+    /* The plan takes the chosen check at each junction: check 1 at stage 0, which leads to stage 3, an ending. */
+    const uint8_t *first = sheet + little(table, LDFS_ENTRY_BYTES);
+    const uint8_t *last = sheet + little(table + 3 * LDFS_ENTRY_BYTES, LDFS_ENTRY_BYTES);
+    printf("  stage 0 check %d value %" PRIu32 "\n", first[8], big(first + 3, 4));
+    printf("  stage 3 end value %" PRIu32 "\n", big(last + 7, 4));
+    expect(first[0] == 3 && big(first + 3, 4) == 500 && first[7] == 1 && first[8] == 1, "stage 0: value 500, settled, check 1");
+    expect(last[0] == 2 && big(last + 7, 4) == 0 && last[11] == 1, "stage 3: an ending, value 0, settled");
+}
+
+/* Interrupted work: the sheet is kept and handed over again. */
+static void sheet_a_carried_on(void)
+{
+    uint8_t sheet[sizeof sheet_a];
+    memcpy(sheet, sheet_a, sizeof sheet);
+    solve_expecting("sheet A, budget 2", sheet, sizeof sheet, 2, LDFS_STOPPED, 200, 2, 2);
+    solve_expecting("that sheet carried on", sheet, sizeof sheet, UINT64_MAX, LDFS_SETTLED, 500, 2, 1);
+}
+
+/* The same in steps of one raise, as a host does that has other work between calls. A call that stops has made as many raises as its
+   budget allows. */
+static void sheet_a_in_steps(void)
+{
+    uint8_t sheet[sizeof sheet_a];
+    memcpy(sheet, sheet_a, sizeof sheet);
+    uint32_t number;
+    int calls = 0;
+    do {
+        number = solve(sheet, sizeof sheet, 1);
+        calls++;
+        if (number == LDFS_STOPPED)
+            expect(little(result + LDFS_RESULT_RAISES, 8) == 1, "a stopped call has spent its budget");
+    } while (number == LDFS_STOPPED);
+    printf("sheet A in steps of one raise: %" PRIu32 " after %d calls\n", number, calls);
+    expect(number == LDFS_SETTLED && little(result + LDFS_RESULT_PRICE, 8) == 500, "the steps come to the same price");
+}
+
+static void sheet_b_of_both_kinds(void)
+{
+    uint8_t sheet[sizeof sheet_b];
+    memcpy(sheet, sheet_b, sizeof sheet);
+    solve_expecting("sheet B, worst", sheet, sizeof sheet, UINT64_MAX, LDFS_SETTLED, 150, 4, 5);
+    memcpy(sheet, sheet_b, sizeof sheet);
+    sheet[B_KIND] = 1;
+    solve_expecting("sheet B, whole", sheet, sizeof sheet, UINT64_MAX, LDFS_SETTLED, 180, 4, 5);
+}
+
+/* One ending of cost 70: its one raise is just within a budget of 1. */
+static void one_ending(void)
+{
+    uint8_t sheet[] = {
+        1, 0, 5, 0, 0, 1, 0, 0,               /* head: kind 0, 1 stage, start 0 */
+        2, 0, 9, 0, 0, 0, 70, 0, 0, 0, 0, 0,  /* stage 0, an ending: cost 70, value 0, open */
+    };
+    solve_expecting("one ending, budget 1", sheet, sizeof sheet, 1, LDFS_SETTLED, 70, 1, 1);
+}
+
+/* A chain of 999 junctions of cost 1,000,000, all values least costs: below the ceiling, and at it. */
+enum { CHAIN = 999, CHAIN_BYTES = 8 + CHAIN * 18 + 12 };
+
+static void chain(const char *name, uint32_t ending, uint32_t number, uint64_t price)
+{
+    static uint8_t sheet[CHAIN_BYTES];
+    static const uint8_t head[8] = {1, 0, 5, 0, (CHAIN + 1) / 256, (CHAIN + 1) % 256, 0, 0};
+    memset(sheet, 0, sizeof sheet);
+    memcpy(sheet, head, sizeof head);
+    uint8_t *at = sheet + sizeof head;
+    for (uint32_t stage = 0; stage < CHAIN; stage++, at += 18) {
+        uint32_t least = (CHAIN - stage) * 1000000 + ending;
+        at[0] = 3;
+        at[2] = 6;
+        put_big(at + 3, least < LDFS_CEILING ? least : LDFS_CEILING);
+        at[9] = 4;
+        at[11] = 6;
+        put_big(at + 12, 1000000);
+        at[16] = (uint8_t)((stage + 1) / 256);
+        at[17] = (uint8_t)((stage + 1) % 256);
+    }
+    at[0] = 2;
+    at[2] = 9;
+    put_big(at + 3, ending);
+    put_big(at + 7, ending);
+    solve_expecting(name, sheet, sizeof sheet, UINT64_MAX, number, price, 1, 0);
+}
+
+/* A refusal of 2 to 9: the result is 0, the sheet is as it was, and every entry of the table is 0. */
+static void refused(const char *name, const uint8_t *sheet, size_t length, uint64_t budget, uint32_t number)
+{
+    uint8_t copy[sizeof sheet_a];
+    memcpy(copy, sheet, length);
+    memset(table, 7, sizeof table);
+    memset(result, 7, sizeof result);
+    solve_expecting(name, copy, length, budget, number, 0, 0, 0);
+    expect(memcmp(copy, sheet, length) == 0, "the sheet is unchanged");
+    expect_rest_of_table(0, 7);
+}
+
+/* Sheet A or B with one byte changed. */
+static const uint8_t *changed(const uint8_t *sheet, size_t length, size_t place, uint8_t byte)
+{
+    static uint8_t copy[sizeof sheet_a];
+    memcpy(copy, sheet, length);
+    copy[place] = byte;
+    return copy;
+}
+
+/* Refusal 1 leaves the table as it is; with too short a result, everything. */
+static void refused_for_want_of_room(void)
+{
+    uint8_t sheet[sizeof sheet_a];
+    memcpy(sheet, sheet_a, sizeof sheet);
+    memset(table, 7, sizeof table);
+    memset(result, 7, sizeof result);
+
+    uint32_t number = ldfs_solve(sheet, sizeof sheet, table, LDFS_TABLE_LEAST - 1, UINT64_MAX, result, sizeof result);
+    printf("a table of 4,095 bytes: %" PRIu32 "\n", number);
+    expect(number == LDFS_REFUSED_ROOM, "number");
+    expect(little(result, 8) == 0 && little(result + 8, 8) == 0 && little(result + 16, 8) == 0, "the result is 0");
+
+    memset(result, 7, sizeof result);
+    number = ldfs_solve(sheet, sizeof sheet, table, sizeof table, UINT64_MAX, result, LDFS_RESULT_LEAST - 1);
+    printf("a result of 23 bytes: %" PRIu32 "\n", number);
+    expect(number == LDFS_REFUSED_ROOM, "number");
+    for (size_t i = 0; i < sizeof result; i++)
+        expect(result[i] == 7, "the result is unaltered");
+
+    for (size_t i = 0; i < sizeof table; i++)
+        expect(table[i] == 7, "the table is unaltered");
+    expect(memcmp(sheet, sheet_a, sizeof sheet) == 0, "the sheet is unaltered");
+}
+
+static void every_refusal(void)
+{
+    const size_t a = sizeof sheet_a, b = sizeof sheet_b;
+    refused_for_want_of_room();
+    refused("19 bytes", sheet_a, LDFS_SHEET_LEAST - 1, UINT64_MAX, LDFS_REFUSED_SIZE);
+    refused("number of stages 0", changed(sheet_b, b, B_STAGES_LOW, 0), b, UINT64_MAX, LDFS_REFUSED_HEAD);
+    refused("check cost 0 and a cut last field", changed(sheet_a, a, A_FIRST_COST, 0), a - 1, UINT64_MAX, LDFS_REFUSED_FIELDS);
+    refused("check cost 0", changed(sheet_a, a, A_FIRST_COST, 0), a, UINT64_MAX, LDFS_REFUSED_RANGES);
+    refused("mark 2", changed(sheet_a, a, A_FIRST_MARK, 2), a, UINT64_MAX, LDFS_REFUSED_RANGES);
+    refused("B, finding 1 replaced by 0", changed(sheet_b, b, B_FINDING_LOW, 0), b, UINT64_MAX, LDFS_REFUSED_FINDINGS);
+    refused("B, junction value 101", changed(sheet_b, b, B_VALUE_LOW, 101), b, UINT64_MAX, LDFS_REFUSED_VALUES);
+    refused("B, ending 1 settled at 0", changed(sheet_b, b, B_ENDING_MARK, 1), b, UINT64_MAX, LDFS_REFUSED_MARKS);
+    refused("sheet A, budget 0", sheet_a, a, 0, LDFS_REFUSED_BUDGET);
+}
+
+int main(void)
+{
+    sheet_a_at_once();
+    sheet_a_carried_on();
+    sheet_a_in_steps();
+    sheet_b_of_both_kinds();
+    one_ending();
+    chain("chain, ending 999,999", 999999, LDFS_SETTLED, 999999999);
+    chain("chain, ending 1,000,000", 1000000, LDFS_OVER, LDFS_CEILING);
+    every_refusal();
+    if (failures > 0) {
+        printf("%d not as expected\n", failures);
+        return EXIT_FAILURE;
+    }
+    printf("all as expected\n");
+    return EXIT_SUCCESS;
+}

@@ -1,0 +1,121 @@
+/*
+ * Measures the stack that ldfs_solve needs for the deepest sheets: chains of 1,023 junctions, the most that 1,024 stages allow.
+ *
+ * The call runs in a thread whose stack is filled with a pattern; what the call has overwritten is what it used. What an empty thread
+ * uses is taken off. Two chains are worked: in one the deepest visit marks the ending, in the other it raises the last junction.
+ */
+#define _POSIX_C_SOURCE 200809L
+
+#include "ldfs.h"
+
+#include <pthread.h>
+#include <stdio.h>
+#include <stdlib.h>
+#include <string.h>
+
+enum { DEEPEST = LDFS_STAGES_MOST - 1, STACK_BYTES = 16 << 20, PATTERN = 0xa5, COST = 7 };
+
+static uint8_t sheet[LDFS_SHEET_MOST];
+static uint8_t table[LDFS_TABLE_LEAST];
+static uint8_t result[LDFS_RESULT_LEAST];
+static size_t sheet_length;
+static uint32_t returned;
+
+static void put_big(uint8_t *at, uint32_t x)
+{
+    for (int i = 0; i < 4; i++)
+        at[i] = (uint8_t)(x >> (24 - 8 * i));
+}
+
+/* A chain of so many junctions of cost COST and an ending of cost 0, every value the price of its check; but the last junction's value
+   is 0 where it is to be raised, and those above it are the lower for it. */
+static void make_chain(uint32_t junctions, int raise_last)
+{
+    uint8_t *at = sheet;
+    const uint8_t head[8] = {1, 0, 5, 0, (uint8_t)((junctions + 1) / 256), (uint8_t)((junctions + 1) % 256), 0, 0};
+    memset(sheet, 0, sizeof sheet);
+    memcpy(at, head, sizeof head);
+    at += sizeof head;
+    for (uint32_t stage = 0; stage < junctions; stage++, at += 18) {
+        uint32_t below = junctions - stage - (raise_last ? 1 : 0);
+        at[0] = 3;
+        at[2] = 6;
+        put_big(at + 3, COST * below);
+        at[9] = 4;
+        at[11] = 6;
+        put_big(at + 12, COST);
+        at[16] = (uint8_t)((stage + 1) / 256);
+        at[17] = (uint8_t)((stage + 1) % 256);
+    }
+    at[0] = 2;
+    at[2] = 9;
+    sheet_length = (size_t)(at + 12 - sheet);
+}
+
+static void *work(void *unused)
+{
+    (void)unused;
+    returned = ldfs_solve(sheet, sheet_length, table, sizeof table, UINT64_MAX, result, sizeof result);
+    return NULL;
+}
+
+static void *nothing(void *unused)
+{
+    return unused;
+}
+
+static void must(int error, const char *what)
+{
+    if (error != 0) {
+        fprintf(stderr, "%s: %s\n", what, strerror(error));
+        exit(EXIT_FAILURE);
+    }
+}
+
+/* The bytes of its stack that a thread has written. */
+static size_t stack_used(void *(*body)(void *))
+{
+    void *memory = NULL;
+    pthread_attr_t attributes;
+    pthread_t thread;
+    must(posix_memalign(&memory, 4096, STACK_BYTES), "memory");
+    memset(memory, PATTERN, STACK_BYTES);
+    must(pthread_attr_init(&attributes), "attributes");
+    must(pthread_attr_setstack(&attributes, memory, STACK_BYTES), "stack");
+    must(pthread_create(&thread, &attributes, body, NULL), "thread");
+    must(pthread_join(thread, NULL), "join");
+    must(pthread_attr_destroy(&attributes), "attributes");
+
+    const uint8_t *bytes = memory;
+    size_t untouched = 0;
+    while (untouched < STACK_BYTES && bytes[untouched] == PATTERN)
+        untouched++;
+    free(memory);
+    return STACK_BYTES - untouched;
+}
+
+/* The stack that a chain of so many junctions needs. */
+static size_t measure(uint32_t junctions, int raise_last)
+{
+    make_chain(junctions, raise_last);
+    size_t all = stack_used(work);
+    if (returned != LDFS_SETTLED) {
+        fprintf(stderr, "the chain of %u junctions is not settled: %u\n", (unsigned)junctions, (unsigned)returned);
+        exit(EXIT_FAILURE);
+    }
+    size_t empty = stack_used(nothing);
+    return all > empty ? all - empty : 0;
+}
+
+int main(void)
+{
+    size_t shallow = measure(1, 0);
+    size_t marked = measure(DEEPEST, 0);
+    size_t raised = measure(DEEPEST, 1);
+    size_t most = marked > raised ? marked : raised;
+    printf("1 junction: %zu bytes of stack\n", shallow);
+    printf("%d junctions, the ending marked: %zu bytes\n", DEEPEST, marked);
+    printf("%d junctions, the last one raised: %zu bytes\n", DEEPEST, raised);
+    printf("for each junction: %zu bytes\n", (most - shallow) / (DEEPEST - 1));
+    return EXIT_SUCCESS;
+}

@@ -1,0 +1,61 @@
+//! A case from a seed: a sheet, perhaps worked, perhaps damaged, and a list of calls.
+
+use crate::calls::{self, Call};
+use crate::cells::{self, Worked};
+use crate::damage;
+use crate::rng::Rng;
+use crate::shapes::{self, SHAPES};
+
+pub struct Case {
+    pub shape: &'static str,
+    pub damaged: bool,
+    pub bytes: Vec<u8>,
+    pub calls: Vec<Call>,
+    /// With the largest budget, work ends soon.
+    pub ends: bool,
+}
+
+pub fn make(seed: u64) -> Case {
+    let mut rng = Rng::new(seed);
+    let (shape, draw) = SHAPES[shapes::draw(&mut rng)];
+    let mut draft = draw(&mut rng);
+    let worked = how_worked(&mut rng, shape);
+    cells::fill(&mut draft, &mut rng, worked);
+    let (in_draft, in_bytes) =
+        rng.pick(&[(false, false), (false, false), (false, false), (true, false), (false, true), (true, true)]);
+    if in_draft {
+        damage::draft(&mut draft, &mut rng);
+    }
+    let mut bytes = draft.bytes();
+    if in_bytes {
+        damage::bytes(&mut bytes, &mut rng);
+    }
+    let mut calls: Vec<Call> = (0..rng.between(1, 5)).map(|_| calls::draw(&mut rng)).collect();
+    let most = most_raises(draft.states.len());
+    let ends = ends_within(&bytes, most);
+    if !ends {
+        calls.iter_mut().for_each(|call| call.budget = call.budget.min(most));
+    }
+    Case { shape, damaged: in_draft || in_bytes, bytes, calls, ends }
+}
+
+/// Large sheets are worked nearly to their end, or visits would never get far into them.
+fn how_worked(rng: &mut Rng, shape: &str) -> Worked {
+    use Worked::*;
+    match shape {
+        "deep chain" | "chain at the ceiling" => rng.pick(&[Blank, Near, Dented, Dented, Optimal, Optimal]),
+        "sums at the ceiling" | "full size" => rng.pick(&[Blank, Low, Near, Dented, Optimal]),
+        _ => rng.pick(&[Blank, Blank, Blank, Low, Near, Dented, Optimal]),
+    }
+}
+
+/// A budget that keeps the work on a sheet of so many states within milliseconds.
+fn most_raises(states: usize) -> u64 {
+    (40_000_000 / states as u64).clamp(40_000, 120_000)
+}
+
+/// Is the sheet refused, or does its work end within a budget?
+fn ends_within(bytes: &[u8], budget: u64) -> bool {
+    let mut copy = bytes.to_vec();
+    procedure::call(&mut copy, &mut [0; 4096], budget, &mut [0; 24]) != 102
+}

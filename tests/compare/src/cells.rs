@@ -1,0 +1,66 @@
+//! Values, marks and chosen checks of a sheet that has been worked to some extent: questions 5, 7 and 8 hold by the way they are made.
+
+use crate::draft::{Draft, Node};
+use crate::rng::Rng;
+
+#[derive(Clone, Copy)]
+pub enum Worked {
+    /// As drafted: values 0 and open, for nearly all shapes.
+    Blank,
+    /// Values anywhere below what is allowed.
+    Low,
+    /// Values a little below what is allowed, or at it.
+    Near,
+    /// Values at the least costs, but for a few states that are lower, and so those that depend on them.
+    Dented,
+    /// Every value at the least cost.
+    Optimal,
+}
+
+/// From the last state backwards: a value up to what its successors' values allow, then perhaps a mark.
+pub fn fill(draft: &mut Draft, rng: &mut Rng, worked: Worked) {
+    if let Worked::Blank = worked {
+        return;
+    }
+    let marked_in_eight = rng.pick(&[0, 4, 7, 8]);
+    for state in (0..draft.states.len()).rev() {
+        let top = draft.top(state);
+        draft.states[state].value = value(rng, worked, top);
+        if rng.below(8) < marked_in_eight {
+            mark(draft, rng, state);
+        }
+    }
+}
+
+fn value(rng: &mut Rng, worked: Worked, top: u32) -> u32 {
+    let below = match worked {
+        Worked::Blank => top,
+        Worked::Low => rng.below(top as usize + 1) as u32,
+        Worked::Near => rng.pick(&[0, 0, 0, 1, 2, 10]),
+        Worked::Dented if rng.one_in(60) => rng.below(4) as u32,
+        Worked::Dented => 0,
+        Worked::Optimal => 0,
+    };
+    top.saturating_sub(below)
+}
+
+/// Marks a state if its value has earned it, with any check that passes as the chosen one.
+fn mark(draft: &mut Draft, rng: &mut Rng, state: usize) {
+    let value = draft.states[state].value;
+    let passing: Vec<usize> = match &draft.states[state].node {
+        Node::Terminal(cost) if value == *cost => vec![0],
+        Node::Terminal(_) => Vec::new(),
+        Node::Decision(actions) => {
+            let solved = |t: &u16| draft.states[usize::from(*t)].mark == 1;
+            let passes = |i: &usize| {
+                let action = &actions[*i];
+                draft.price(action) == u64::from(value) && action.successors.iter().all(solved)
+            };
+            (0..actions.len()).filter(passes).collect()
+        }
+    };
+    if !passing.is_empty() {
+        draft.states[state].chosen = rng.pick(&passing) as u8;
+        draft.states[state].mark = 1;
+    }
+}

@@ -1,0 +1,76 @@
+//! Counts of what the generated sheets and calls had, so that nobody has to trust that they had it.
+
+use std::collections::BTreeMap;
+
+/// A long run must have each of these.
+const WANTED: [&str; 36] = [
+    "refused 1",
+    "refused 2",
+    "refused 3",
+    "refused 4",
+    "refused 5",
+    "refused 6",
+    "refused 7",
+    "refused 8",
+    "refused 9",
+    "settled worst",
+    "settled whole",
+    "over worst",
+    "over whole",
+    "stopped worst",
+    "stopped whole",
+    "carried on",
+    "largest budget",
+    "more than 65,536 raises in one call",
+    "start is not 0",
+    "partly worked at the outset",
+    "settled at the outset",
+    "sum above 32 bits",
+    "sum that wraps to below the ceiling",
+    "chosen check is not the first of its price",
+    "16 checks",
+    "16 findings",
+    "chain of 1,000 or more worked to its end",
+    "1,024 states",
+    "60,000 bytes",
+    "nothing wrong but 60,001 bytes",
+    "20 bytes",
+    "table longer than 1,024 entries",
+    "bytes left over behind the table",
+    "result shorter than 24",
+    "result longer than 24",
+    "accepted although damaged",
+];
+
+/// Wanted too where a `price` program is given.
+const WANTED_OF_PRICE: [&str; 3] = ["price: settled", "price: over", "price: refused"];
+
+#[derive(Default)]
+pub struct Coverage(BTreeMap<String, u64>);
+
+impl Coverage {
+    pub fn saw(&mut self, name: &str) {
+        self.add(name, 1);
+    }
+
+    pub fn saw_if(&mut self, holds: bool, name: &str) {
+        if holds {
+            self.saw(name);
+        }
+    }
+
+    pub fn add(&mut self, name: &str, count: u64) {
+        *self.0.entry(name.to_string()).or_default() += count;
+    }
+
+    pub fn lines(&self) -> impl Iterator<Item = (&String, &u64)> {
+        self.0.iter()
+    }
+
+    /// What a long run should have had and had not.
+    pub fn missing(&self, with_price: bool) -> Vec<&'static str> {
+        let price = if with_price { &WANTED_OF_PRICE[..] } else { &[] };
+        let wanted = WANTED.iter().chain(price);
+        wanted.copied().filter(|&name| !self.0.contains_key(name)).collect()
+    }
+}

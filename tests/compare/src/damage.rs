@@ -1,0 +1,258 @@
+//! Damage. Each question is tried on both sides of its boundary, in the draft; then bytes are flipped, cut off and added.
+
+use crate::draft::{Draft, Node};
+use crate::rng::Rng;
+
+/// Damages of a draft, in the order of the questions that they are about. The late ones stand there more than once: they miss often.
+const IN_DRAFT: [fn(&mut Draft, &mut Rng); 18] = [
+    kind,
+    count,
+    start,
+    number_of_checks,
+    number_of_findings,
+    check_cost,
+    ending_cost,
+    value_range,
+    mark_range,
+    chosen_range,
+    finding_order,
+    finding_order,
+    value_above,
+    value_above,
+    mark_unearned,
+    mark_unearned,
+    mark_unearned,
+    mark_unearned,
+];
+
+/// Damages of bytes.
+const IN_BYTES: [fn(&mut Vec<u8>, &mut Rng); 7] = [flip, cut, extend, size_limits, tag, length, repeat_field];
+
+/// One damage of the draft, or several: the first question that is answered no decides.
+pub fn draft(draft: &mut Draft, rng: &mut Rng) {
+    for _ in 0..rng.pick(&[1, 1, 2, 3, 6]) {
+        rng.pick(&IN_DRAFT)(draft, rng);
+    }
+}
+
+/// One or two damages of the bytes.
+pub fn bytes(bytes: &mut Vec<u8>, rng: &mut Rng) {
+    for _ in 0..rng.pick(&[1, 1, 2]) {
+        rng.pick(&IN_BYTES)(bytes, rng);
+    }
+}
+
+// Question 3.
+
+fn kind(draft: &mut Draft, rng: &mut Rng) {
+    draft.kind = rng.pick(&[0, 1, 2, 255]);
+}
+
+fn count(draft: &mut Draft, rng: &mut Rng) {
+    let count = draft.states.len() as u16;
+    draft.count = rng.pick(&[0, 1, count - 1, count + 1, 1024, 1025, u16::MAX]);
+}
+
+fn start(draft: &mut Draft, rng: &mut Rng) {
+    let count = draft.states.len() as u16;
+    draft.start = rng.pick(&[count - 1, count, count + 1, u16::MAX]);
+}
+
+// Question 4.
+
+fn number_of_checks(draft: &mut Draft, rng: &mut Rng) {
+    let wanted = rng.pick(&[0, 1, 15, 16, 17, 18]);
+    if let Some(actions) = decision(draft, rng).map(|(_, actions)| actions) {
+        let last = actions[actions.len() - 1].clone();
+        actions.resize(wanted, last);
+    }
+}
+
+fn number_of_findings(draft: &mut Draft, rng: &mut Rng) {
+    let wanted = rng.pick(&[0, 1, 15, 16, 17, 18]);
+    let states = draft.states.len();
+    let Some((number, actions)) = decision(draft, rng) else { return };
+    let place = rng.below(actions.len());
+    let successors = &mut actions[place].successors;
+    let first = (number + 1).min(states.saturating_sub(wanted));
+    *successors = (first..first + wanted).map(|t| t as u16).collect();
+}
+
+// Question 5.
+
+fn check_cost(draft: &mut Draft, rng: &mut Rng) {
+    let cost = rng.pick(&[0, 1, 1_000_000, 1_000_001, u32::MAX]);
+    if let Some((_, actions)) = decision(draft, rng) {
+        let place = rng.below(actions.len());
+        actions[place].cost = cost;
+    }
+}
+
+fn ending_cost(draft: &mut Draft, rng: &mut Rng) {
+    let wanted = rng.pick(&[0, 1_000_000, 1_000_001, u32::MAX]);
+    let number = rng.below(draft.states.len());
+    if let Node::Terminal(cost) = &mut draft.states[number].node {
+        *cost = wanted;
+    }
+}
+
+fn value_range(draft: &mut Draft, rng: &mut Rng) {
+    let number = rng.below(draft.states.len());
+    draft.states[number].value = rng.pick(&[0, 999_999_999, 1_000_000_000, 1_000_000_001, u32::MAX]);
+}
+
+fn mark_range(draft: &mut Draft, rng: &mut Rng) {
+    let number = rng.below(draft.states.len());
+    draft.states[number].mark = rng.pick(&[0, 1, 2, 255]);
+}
+
+fn chosen_range(draft: &mut Draft, rng: &mut Rng) {
+    let number = rng.below(draft.states.len());
+    if let Node::Decision(actions) = &draft.states[number].node {
+        let count = actions.len() as u8;
+        draft.states[number].chosen = rng.pick(&[0, 1, count.saturating_sub(1), count, 255]);
+    }
+}
+
+// Question 6.
+
+fn finding_order(draft: &mut Draft, rng: &mut Rng) {
+    let states = draft.states.len() as u16;
+    let Some((number, actions)) = decision(draft, rng) else { return };
+    let own = number as u16;
+    let place = rng.below(actions.len());
+    let successors = &mut actions[place].successors;
+    if successors.is_empty() {
+        return;
+    }
+    let last = successors.len() - 1;
+    match rng.below(6) {
+        0 => successors[0] = own,
+        1 => successors[0] = own + 1,
+        2 => successors[0] = own.saturating_sub(1),
+        3 => successors[last] = rng.pick(&[states - 1, states, u16::MAX]),
+        4 => successors[last] = successors[last.saturating_sub(1)],
+        _ => successors.swap(0, last),
+    }
+}
+
+// Questions 7 and 8. Prices are asked only where every successor is there.
+
+fn value_above(draft: &mut Draft, rng: &mut Rng) {
+    let number = rng.below(draft.states.len());
+    let Some(top) = top(draft, number) else { return };
+    draft.states[number].value = top + rng.pick(&[0, 1, 1, 100]);
+}
+
+fn mark_unearned(draft: &mut Draft, rng: &mut Rng) {
+    let number = rng.below(draft.states.len());
+    let Some(top) = top(draft, number) else { return };
+    let state = &mut draft.states[number];
+    match rng.below(4) {
+        0 => state.mark = 1,
+        1 => state.mark = 0,
+        2 => {
+            state.mark = 1;
+            state.value = top;
+        }
+        _ => {
+            state.mark = 1;
+            state.value = top.saturating_sub(1);
+        }
+    }
+}
+
+fn top(draft: &Draft, number: usize) -> Option<u32> {
+    let states = draft.states.len();
+    let there = match &draft.states[number].node {
+        Node::Terminal(_) => true,
+        Node::Decision(actions) => actions.iter().flat_map(|a| &a.successors).all(|&t| usize::from(t) < states),
+    };
+    there.then(|| draft.top(number).min(u32::MAX - 100))
+}
+
+/// A decision with actions, at random, if the state that is drawn is one.
+fn decision<'a>(draft: &'a mut Draft, rng: &mut Rng) -> Option<(usize, &'a mut Vec<crate::draft::Action>)> {
+    let number = rng.below(draft.states.len());
+    match &mut draft.states[number].node {
+        Node::Decision(actions) if !actions.is_empty() => Some((number, actions)),
+        _ => None,
+    }
+}
+
+// Bytes.
+
+fn flip(bytes: &mut Vec<u8>, rng: &mut Rng) {
+    for _ in 0..rng.between(1, 3) {
+        if !bytes.is_empty() {
+            let place = rng.below(bytes.len());
+            bytes[place] ^= 1 << rng.below(8);
+        }
+    }
+}
+
+fn cut(bytes: &mut Vec<u8>, rng: &mut Rng) {
+    let length = bytes.len();
+    let anywhere = rng.below(length + 1);
+    bytes.truncate(rng.pick(&[0, 7, 8, 19, 20, length.saturating_sub(1), length.saturating_sub(12), anywhere]));
+}
+
+fn extend(bytes: &mut Vec<u8>, rng: &mut Rng) {
+    let more = rng.pick(&[1, 2, 3, 9, 12, 100]);
+    match rng.below(3) {
+        0 => bytes.extend(vec![0; more]),
+        1 => bytes.extend(rng.bytes(more)),
+        _ => bytes.extend([2, 0, 9, 0, 0, 0, 0, 0, 0, 0, 0, 0]),
+    }
+}
+
+/// Question 2, with whatever the sheet has.
+fn size_limits(bytes: &mut Vec<u8>, rng: &mut Rng) {
+    let length = rng.pick(&[19, 20, 60_000, 60_001, 65_000]);
+    bytes.resize(length, 0);
+}
+
+fn tag(bytes: &mut Vec<u8>, rng: &mut Rng) {
+    if let Some(place) = field(bytes, rng) {
+        bytes[place] = rng.pick(&[0, 1, 2, 3, 4, 5, 255]);
+    }
+}
+
+fn length(bytes: &mut Vec<u8>, rng: &mut Rng) {
+    if let Some(place) = field(bytes, rng) {
+        match rng.below(4) {
+            0 => bytes[place + 1] = rng.pick(&[1, 255]),
+            1 => bytes[place + 2] = bytes[place + 2].wrapping_add(rng.pick(&[1, 2])),
+            2 => bytes[place + 2] = bytes[place + 2].wrapping_sub(rng.pick(&[1, 2])),
+            _ => bytes[place + 2] = rng.pick(&[0, 4, 5, 6, 7, 9, 36, 37, 38]),
+        }
+    }
+}
+
+/// A field is there twice, or not at all.
+fn repeat_field(bytes: &mut Vec<u8>, rng: &mut Rng) {
+    let Some(place) = field(bytes, rng) else { return };
+    let end = bytes.len().min(place + 3 + usize::from(bytes[place + 2]));
+    if rng.one_in(2) {
+        let copy = bytes[place..end].to_vec();
+        bytes.splice(place..place, copy);
+    } else {
+        bytes.drain(place..end);
+    }
+}
+
+/// Where a field begins, as far as fields follow one another; the last ones are drawn as often as all others.
+fn field(bytes: &[u8], rng: &mut Rng) -> Option<usize> {
+    let mut places = Vec::new();
+    let mut at = 0;
+    while at + 3 <= bytes.len() {
+        places.push(at);
+        at += 3 + usize::from(bytes[at + 1]) * 256 + usize::from(bytes[at + 2]);
+    }
+    if places.is_empty() {
+        return None;
+    }
+    let late = places.len().saturating_sub(3);
+    let from = if rng.one_in(2) { late } else { 0 };
+    Some(places[rng.between(from, places.len() - 1)])
+}

@@ -1,0 +1,107 @@
+//! A sheet in the making, and how it is written. Nothing is checked: a draft may be as wrong as a damaged sheet needs.
+
+#[derive(Clone)]
+pub struct Action {
+    pub cost: u32,
+    pub successors: Vec<u16>,
+}
+
+#[derive(Clone)]
+pub enum Node {
+    Terminal(u32),
+    Decision(Vec<Action>),
+}
+
+#[derive(Clone)]
+pub struct State {
+    pub node: Node,
+    pub value: u32,
+    pub mark: u8,
+    pub chosen: u8,
+}
+
+/// The head's three numbers stand apart from the states, so that they can disagree with them.
+#[derive(Clone)]
+pub struct Draft {
+    pub kind: u8,
+    pub count: u16,
+    pub start: u16,
+    pub states: Vec<State>,
+}
+
+pub const CEILING: u64 = 1_000_000_000;
+
+impl Draft {
+    /// All states open, with value 0.
+    pub fn new(kind: u8, start: usize, nodes: Vec<Node>) -> Draft {
+        let blank = |node| State { node, value: 0, mark: 0, chosen: 0 };
+        Draft { kind, count: nodes.len() as u16, start: start as u16, states: nodes.into_iter().map(blank).collect() }
+    }
+
+    /// The bytes of the sheet.
+    pub fn bytes(&self) -> Vec<u8> {
+        let mut content = vec![self.kind];
+        content.extend(self.count.to_be_bytes());
+        content.extend(self.start.to_be_bytes());
+        let mut bytes = Vec::new();
+        push_field(&mut bytes, 1, &content);
+        for state in &self.states {
+            push_state(&mut bytes, state);
+        }
+        bytes
+    }
+
+    /// The price of a check by the values drafted so far.
+    pub fn price(&self, action: &Action) -> u64 {
+        let values = action.successors.iter().map(|&t| u64::from(self.states[usize::from(t)].value));
+        let joined = if self.kind == 0 { values.max().unwrap_or(0) } else { values.sum() };
+        CEILING.min(u64::from(action.cost) + joined)
+    }
+
+    /// The most that question 7 allows as the value of a state.
+    pub fn top(&self, state: usize) -> u32 {
+        match &self.states[state].node {
+            Node::Terminal(cost) => *cost,
+            Node::Decision(actions) => actions.iter().map(|a| self.price(a)).min().unwrap_or(0) as u32,
+        }
+    }
+}
+
+/// The number of bytes that a state's fields take.
+pub fn size(node: &Node) -> usize {
+    match node {
+        Node::Terminal(_) => 12,
+        Node::Decision(actions) => 9 + actions.iter().map(|a| 7 + 2 * a.successors.len()).sum::<usize>(),
+    }
+}
+
+fn push_field(bytes: &mut Vec<u8>, tag: u8, content: &[u8]) {
+    bytes.push(tag);
+    bytes.extend((content.len() as u16).to_be_bytes());
+    bytes.extend(content);
+}
+
+fn push_state(bytes: &mut Vec<u8>, state: &State) {
+    let value = state.value.to_be_bytes();
+    match &state.node {
+        Node::Terminal(cost) => {
+            let content = [&cost.to_be_bytes()[..], &value, &[state.mark]].concat();
+            push_field(bytes, 2, &content);
+        }
+        Node::Decision(actions) => {
+            let content = [&value[..], &[state.mark, state.chosen]].concat();
+            push_field(bytes, 3, &content);
+            for action in actions {
+                push_action(bytes, action);
+            }
+        }
+    }
+}
+
+fn push_action(bytes: &mut Vec<u8>, action: &Action) {
+    let mut content = action.cost.to_be_bytes().to_vec();
+    for successor in &action.successors {
+        content.extend(successor.to_be_bytes());
+    }
+    push_field(bytes, 4, &content);
+}

@@ -1,0 +1,44 @@
+//! Compares the static library with the programs `sweep` and `procedure` on generated and damaged sheets.
+//!
+//!     compare COUNT FIRST_SEED [PRICE_PROGRAM]
+//!
+//! Each seed makes one sheet and a list of calls on it. A failing case prints its seed; `compare 1 SEED` makes it again.
+
+mod calls;
+mod case;
+mod cells;
+mod check;
+mod coverage;
+mod damage;
+mod draft;
+mod library;
+mod price;
+mod rng;
+mod rows;
+mod shapes;
+mod supervisor;
+mod worker;
+
+use std::process::ExitCode;
+
+fn main() -> ExitCode {
+    let arguments: Vec<String> = std::env::args().skip(1).collect();
+    let words: Vec<&str> = arguments.iter().map(String::as_str).collect();
+    match words[..] {
+        ["worker", "rows", ref price @ ..] => worker::run_rows(price.first().copied()),
+        ["worker", count, first, step, ref price @ ..] => match (count.parse(), first.parse(), step.parse()) {
+            (Ok(count), Ok(first), Ok(step)) => worker::run_seeds(count, first, step, price.first().copied()),
+            _ => usage(),
+        },
+        [count, first, ref price @ ..] if price.len() < 2 => match (count.parse(), first.parse()) {
+            (Ok(count), Ok(first)) => supervisor::run(count, first, price.first().copied()),
+            _ => usage(),
+        },
+        _ => usage(),
+    }
+}
+
+fn usage() -> ExitCode {
+    eprintln!("usage: compare COUNT FIRST_SEED [PRICE_PROGRAM]");
+    ExitCode::from(2)
+}

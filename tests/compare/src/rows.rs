@@ -1,0 +1,158 @@
+//! Document 01's rows, run through the library and through both programs. The numbers are the document's.
+
+use crate::coverage::Coverage;
+use crate::draft::{Action, Draft, Node};
+use crate::{library, price};
+
+const LARGEST: u64 = u64::MAX;
+
+type Solve = fn(&mut [u8], &mut [u8], u64, &mut [u8]) -> u32;
+
+/// What a row says: outcome, price, passes and raises; or that the sheet is accepted.
+enum Expected {
+    Answer(u32, u64, u64, u64),
+    Accepted,
+}
+
+use Expected::{Accepted, Answer};
+
+const fn refused(number: u32) -> Expected {
+    Answer(number, 0, 0, 0)
+}
+
+fn check(cost: u32, successors: &[u16]) -> Action {
+    Action { cost, successors: successors.to_vec() }
+}
+
+fn sheet_a() -> Draft {
+    let first = Node::Decision(vec![check(200, &[1, 3]), check(500, &[3])]);
+    let second = Node::Decision(vec![check(400, &[2, 3])]);
+    Draft::new(0, 0, vec![first, second, Node::Terminal(100), Node::Terminal(0)])
+}
+
+fn sheet_b(kind: u8) -> Draft {
+    let junction = Node::Decision(vec![check(100, &[1, 2])]);
+    Draft::new(kind, 0, vec![junction, Node::Terminal(30), Node::Terminal(50)])
+}
+
+fn one_ending(cost: u32) -> Draft {
+    Draft::new(0, 0, vec![Node::Terminal(cost)])
+}
+
+/// 999 junctions of cost 1,000,000, all values least costs.
+fn long_chain(ending: u32) -> Draft {
+    let mut nodes: Vec<Node> = (1..=999).map(|next| Node::Decision(vec![check(1_000_000, &[next])])).collect();
+    nodes.push(Node::Terminal(ending));
+    let mut draft = Draft::new(0, 0, nodes);
+    for (place, state) in draft.states.iter_mut().enumerate() {
+        state.value = (999 - place as u32) * 1_000_000 + ending;
+    }
+    draft
+}
+
+fn with_checks(count: usize) -> Draft {
+    Draft::new(0, 0, vec![Node::Decision(vec![check(1, &[1]); count]), Node::Terminal(0)])
+}
+
+fn with_findings(count: u16) -> Draft {
+    let findings: Vec<u16> = (1..=count).collect();
+    let mut nodes = vec![Node::Decision(vec![check(1, &findings)])];
+    nodes.resize(usize::from(count) + 1, Node::Terminal(0));
+    Draft::new(0, 0, nodes)
+}
+
+/// The draft with one thing changed.
+fn but(mut draft: Draft, change: impl Fn(&mut Draft)) -> Vec<u8> {
+    change(&mut draft);
+    draft.bytes()
+}
+
+fn set_first_check(draft: &mut Draft, action: Action) {
+    if let Node::Decision(actions) = &mut draft.states[0].node {
+        actions[0] = action;
+    }
+}
+
+fn bad_cost_and_cut() -> Vec<u8> {
+    let mut bytes = but(sheet_a(), |a| set_first_check(a, check(0, &[1, 3])));
+    bytes.pop();
+    bytes
+}
+
+/// What `price` prints for sheet A, whole.
+const LINES_OF_A: &str = "settled 500 3 3\nstage 0 check 1 value 500\nstage 3 end value 0\n";
+
+/// Puts every row to all three, and sheet A to the `price` program if there is one. The error says what the row gave.
+pub fn run(price: Option<&str>) -> Result<Coverage, String> {
+    let mut seen = Coverage::default();
+    let a_stopped = call("A, allowance 2", &sheet_a().bytes(), 2, Answer(102, 200, 2, 2))?;
+    let rows = [
+        ("one ending, cost 0", one_ending(0).bytes(), LARGEST, Answer(100, 0, 1, 0)),
+        ("one ending, cost 70, allowance 1", one_ending(70).bytes(), 1, Answer(100, 70, 1, 1)),
+        ("A", sheet_a().bytes(), LARGEST, Answer(100, 500, 3, 3)),
+        ("that sheet carried on", a_stopped, LARGEST, Answer(100, 500, 2, 1)),
+        ("B worst", sheet_b(0).bytes(), LARGEST, Answer(100, 150, 4, 5)),
+        ("B whole", sheet_b(1).bytes(), LARGEST, Answer(100, 180, 4, 5)),
+        ("B, junction value 100", but(sheet_b(0), |b| b.states[0].value = 100), LARGEST, Accepted),
+        ("B, junction value 101", but(sheet_b(0), |b| b.states[0].value = 101), LARGEST, refused(7)),
+        ("number of stages 0", but(sheet_b(0), |b| b.count = 0), LARGEST, refused(3)),
+        ("B, finding 1 replaced by 0", but(sheet_b(0), |b| set_first_check(b, check(100, &[0, 2]))), LARGEST, refused(6)),
+        ("B, ending 1 settled at 0", but(sheet_b(0), |b| b.states[1].mark = 1), LARGEST, refused(8)),
+        ("A, allowance 0", sheet_a().bytes(), 0, refused(9)),
+        ("chain, ending 999,999", long_chain(999_999).bytes(), LARGEST, Answer(100, 999_999_999, 1, 0)),
+        ("chain, ending 1,000,000", long_chain(1_000_000).bytes(), LARGEST, Answer(101, 1_000_000_000, 1, 0)),
+        ("check cost 0 and a cut last field", bad_cost_and_cut(), LARGEST, refused(4)),
+        ("16 checks", with_checks(16).bytes(), LARGEST, Accepted),
+        ("17 checks", with_checks(17).bytes(), LARGEST, refused(4)),
+        ("16 findings", with_findings(16).bytes(), LARGEST, Accepted),
+        ("17 findings", with_findings(17).bytes(), LARGEST, refused(4)),
+    ];
+    seen.add("rows of document 01", 1 + rows.len() as u64);
+    for (name, bytes, budget, expected) in rows {
+        call(name, &bytes, budget, expected)?;
+    }
+    if let Some(program) = price {
+        println!("at sheet A, printed");
+        price::expect(program, &sheet_a().bytes(), LINES_OF_A)?;
+    }
+    Ok(seen)
+}
+
+/// The bytes that the call leaves.
+fn call(name: &str, sheet: &[u8], budget: u64, expected: Expected) -> Result<Vec<u8>, String> {
+    println!("at row '{name}'");
+    let solvers: [(&str, Solve); 2] = [("procedure", procedure::call), ("library", library::solve)];
+    let mut left = Vec::new();
+    for (solver, solve) in solvers {
+        let mut bytes = sheet.to_vec();
+        let (mut table, mut result) = ([0; 4096], [0; 24]);
+        let number = solve(&mut bytes, &mut table, budget, &mut result);
+        let [price, passes, raises] =
+            [0, 8, 16].map(|at| u64::from_le_bytes(result[at..at + 8].try_into().expect("eight bytes")));
+        let holds = match expected {
+            Accepted => number >= 100,
+            Answer(n, p, q, r) => (number, price, passes, raises) == (n, p, q, r),
+        };
+        if !holds {
+            return Err(format!("{solver} gives {number} {price} {passes} {raises}"));
+        }
+        left = bytes;
+    }
+    by_sweep(sheet, expected)?;
+    Ok(left)
+}
+
+/// The price of a settled row is the least cost, and `sweep`'s reader refuses what is refused for the sheet's sake.
+fn by_sweep(sheet: &[u8], expected: Expected) -> Result<(), String> {
+    let least = sweep::read(sheet).map(|read| read.least_costs()[read.start]);
+    let holds = match expected {
+        Answer(100 | 101, price, _, _) => least == Ok(price),
+        Answer(number @ 2..=8, _, _, _) => least == Err(number),
+        _ => least.is_ok(),
+    };
+    if holds {
+        Ok(())
+    } else {
+        Err(format!("sweep gives {least:?}"))
+    }
+}

@@ -1,0 +1,264 @@
+//! The problems: which states there are and how they hang together. They are good problems, but for a few sheets that are one byte too
+//! long; damage comes later.
+
+use crate::draft::{size, Action, Draft, Node};
+use crate::rng::Rng;
+use std::collections::BTreeSet;
+
+/// The largest sheet.
+const FULL: usize = 60_000;
+
+/// What is drawn for the states of a random problem.
+struct Spec {
+    states: usize,
+    /// How many of eight states are decisions.
+    decisions: usize,
+    actions: usize,
+    successors: usize,
+    /// How far behind a state its successors stand, at most.
+    reach: usize,
+    costs: Costs,
+}
+
+#[derive(Clone, Copy)]
+enum Costs {
+    /// Up to 3, so that many prices are equal.
+    Ties,
+    /// Up to 40.
+    Small,
+    /// Up to 2,000, in steps of 50.
+    Steps,
+    /// Up to the largest cost.
+    Wide,
+    /// The largest cost and those just below it.
+    Top,
+}
+
+type Draw = fn(&mut Rng) -> Draft;
+
+pub const SHAPES: [(&str, Draw); 10] = [
+    ("tiny", tiny),
+    ("small", small),
+    ("medium", medium),
+    ("broad", broad),
+    ("chain", chain),
+    ("deep chain", deep_chain),
+    ("chain at the ceiling", chain_at_ceiling),
+    ("sums at the ceiling", sums_at_ceiling),
+    ("abandoned check", abandoned_check),
+    ("full size", full_size),
+];
+
+/// How often each shape is drawn: small ones are quick and have the most to show.
+const WEIGHTS: [usize; 10] = [40, 40, 12, 10, 8, 5, 3, 8, 4, 6];
+
+/// The number of a shape.
+pub fn draw(rng: &mut Rng) -> usize {
+    let mut left = rng.below(WEIGHTS.iter().sum());
+    let mut shape = 0;
+    while left >= WEIGHTS[shape] {
+        left -= WEIGHTS[shape];
+        shape += 1;
+    }
+    shape
+}
+
+fn tiny(rng: &mut Rng) -> Draft {
+    let costs = rng.pick(&[Costs::Ties, Costs::Ties, Costs::Small, Costs::Steps]);
+    let states = rng.between(1, 6);
+    random(rng, Spec { states, decisions: 5, actions: 3, successors: 3, reach: 6, costs })
+}
+
+fn small(rng: &mut Rng) -> Draft {
+    let costs = rng.pick(&[Costs::Ties, Costs::Small, Costs::Steps, Costs::Wide, Costs::Top]);
+    let states = rng.between(4, 40);
+    let reach = rng.between(2, 40);
+    let decisions = rng.between(3, 7);
+    random(rng, Spec { states, decisions, actions: 4, successors: 4, reach, costs })
+}
+
+fn medium(rng: &mut Rng) -> Draft {
+    let costs = rng.pick(&[Costs::Ties, Costs::Small, Costs::Steps, Costs::Wide, Costs::Top]);
+    let states = rng.between(40, 250);
+    let reach = rng.between(3, 250);
+    let decisions = rng.between(3, 7);
+    random(rng, Spec { states, decisions, actions: 5, successors: 5, reach, costs })
+}
+
+/// One junction with 16 checks, one check with 16 findings, others up to that.
+fn broad(rng: &mut Rng) -> Draft {
+    let costs = rng.pick(&[Costs::Ties, Costs::Small, Costs::Wide]);
+    let states = rng.between(18, 60);
+    let mut draft = random(rng, Spec { states, decisions: 3, actions: 16, successors: 16, reach: 60, costs });
+    let mut actions: Vec<Action> = (0..16).map(|_| action(rng, 0, states, 16, 60, costs)).collect();
+    let widest = rng.below(16);
+    actions[widest].successors = draw_successors(rng, 0, states, 16, 60);
+    draft.states[0].node = Node::Decision(actions);
+    draft
+}
+
+/// Each junction leads to the next; some have another check that leads further on.
+fn chain(rng: &mut Rng) -> Draft {
+    let junctions = rng.between(1, 450);
+    let costs = rng.pick(&[Costs::Ties, Costs::Small, Costs::Wide]);
+    chain_of(rng, junctions, costs)
+}
+
+fn deep_chain(rng: &mut Rng) -> Draft {
+    let junctions = rng.pick(&[1023, 1023, 1022, 1000]);
+    let costs = rng.pick(&[Costs::Ties, Costs::Small, Costs::Wide, Costs::Top]);
+    chain_of(rng, junctions, costs)
+}
+
+fn chain_of(rng: &mut Rng, junctions: usize, costs: Costs) -> Draft {
+    let mut nodes = Vec::new();
+    let forks = rng.one_in(2);
+    for number in 0..junctions {
+        let next = Action { cost: cost(rng, costs).max(1), successors: vec![number as u16 + 1] };
+        let mut actions = vec![next];
+        if forks && rng.one_in(4) {
+            let place = rng.below(2);
+            actions.insert(place, action(rng, number, junctions + 1, 2, 3, costs));
+        }
+        nodes.push(Node::Decision(actions));
+    }
+    nodes.push(Node::Terminal(cost(rng, costs)));
+    Draft::new(rng.below(2) as u8, 0, nodes)
+}
+
+/// About a thousand junctions of the largest cost: the least cost is a little below the ceiling, at it or above it.
+fn chain_at_ceiling(rng: &mut Rng) -> Draft {
+    let junctions = rng.between(997, 1002);
+    let next = |number: usize| Action { cost: 1_000_000, successors: vec![number as u16 + 1] };
+    let mut nodes: Vec<Node> = (0..junctions).map(|number| Node::Decision(vec![next(number)])).collect();
+    nodes.push(Node::Terminal(rng.pick(&[0, 999_998, 999_999, 1_000_000])));
+    Draft::new(rng.below(2) as u8, 0, nodes)
+}
+
+/// A whole sheet whose costs double from state to state until they stand at the ceiling, and checks that add several of those up: 5 and 9
+/// of them wrap to below the ceiling in 32 bits.
+fn sums_at_ceiling(rng: &mut Rng) -> Draft {
+    let summed = rng.pick(&[1, 2, 4, 5, 5, 5, 9, 9, 9, 12, 16]);
+    let behind = summed + rng.between(9, 11);
+    let mut nodes = vec![Node::Decision(vec![Action { cost: 1, successors: (1..=summed as u16).collect() }])];
+    for number in 1..behind {
+        let last = behind.min(number + 16);
+        let successors = (number as u16 + 1..=last as u16).collect();
+        nodes.push(Node::Decision(vec![Action { cost: 1_000_000, successors }]));
+    }
+    nodes.push(Node::Terminal(1_000_000));
+    if rng.one_in(2) {
+        let other = action(rng, 0, behind + 1, 16, behind, Costs::Wide);
+        if let Node::Decision(actions) = &mut nodes[0] {
+            actions.push(other);
+        }
+    }
+    Draft::new(1, 0, nodes)
+}
+
+/// A worst sheet where a check is given up although its price does not move, and one of equal price passes after it.
+fn abandoned_check(rng: &mut Rng) -> Draft {
+    let (low, step) = (rng.between(1, 20) as u32, rng.between(1, 20) as u32);
+    let dear = rng.between(21, 60) as u32;
+    let cost = rng.between(1, 100) as u32;
+    let nodes = vec![
+        Node::Decision(vec![Action { cost, successors: vec![1, 3] }, Action { cost: cost + dear, successors: vec![2] }]),
+        Node::Decision(vec![Action { cost: step, successors: vec![4] }]),
+        Node::Terminal(0),
+        Node::Terminal(dear),
+        Node::Terminal(low),
+    ];
+    let mut draft = Draft::new(0, 0, nodes);
+    draft.states[3].value = dear;
+    draft.states[0].value = cost + dear;
+    draft
+}
+
+/// Many states and many bytes: often 1,024 states, often 60,000 bytes to the byte, and now and then one byte more.
+fn full_size(rng: &mut Rng) -> Draft {
+    let states = rng.pick(&[1024, 1024, 1000, 700]);
+    let bytes = rng.pick(&[FULL, FULL, FULL - 1, FULL + 1, 59_000]);
+    let reach = rng.pick(&[20, 100, 1024]);
+    let costs = rng.pick(&[Costs::Ties, Costs::Small, Costs::Steps, Costs::Wide]);
+    let mut draft = random(rng, Spec { states, decisions: 6, actions: 3, successors: 4, reach, costs });
+    draft.start = 0;
+    pad(rng, &mut draft, bytes, reach, costs);
+    draft
+}
+
+/// Adds checks and findings until the sheet has this many bytes.
+fn pad(rng: &mut Rng, draft: &mut Draft, bytes: usize, reach: usize, costs: Costs) {
+    let states = draft.states.len();
+    let mut left = bytes - 8 - draft.states.iter().map(|s| size(&s.node)).sum::<usize>();
+    while left > 0 {
+        let number = rng.below(states - 20);
+        let Node::Decision(actions) = &mut draft.states[number].node else { continue };
+        if left >= 9 && (left > 200 || left % 2 == 1) {
+            let most = (left - 7) / 2;
+            if actions.len() < 16 {
+                actions.push(action(rng, number, states, most.min(8), reach, costs));
+                left -= 7 + 2 * actions[actions.len() - 1].successors.len();
+            }
+        } else if left % 2 == 0 {
+            left -= widen(&mut actions[0], number, states);
+        } else {
+            return;
+        }
+    }
+}
+
+/// Adds one finding to a check with fewer than 16; the number of bytes that it takes.
+fn widen(action: &mut Action, number: usize, states: usize) -> usize {
+    let free = (number + 1..states).map(|t| t as u16).find(|t| !action.successors.contains(t));
+    match free {
+        Some(t) if action.successors.len() < 16 => {
+            action.successors.push(t);
+            action.successors.sort();
+            2
+        }
+        _ => 0,
+    }
+}
+
+/// Random states; the last one is always a terminal.
+fn random(rng: &mut Rng, spec: Spec) -> Draft {
+    let mut nodes = Vec::new();
+    for number in 0..spec.states {
+        let last = number + 1 == spec.states;
+        if last || rng.below(8) >= spec.decisions {
+            nodes.push(Node::Terminal(cost(rng, spec.costs)));
+        } else {
+            let actions = rng.between(1, spec.actions);
+            let draw = |_| action(rng, number, spec.states, spec.successors, spec.reach, spec.costs);
+            nodes.push(Node::Decision((0..actions).map(draw).collect()));
+        }
+    }
+    let start = if rng.one_in(4) { rng.below(spec.states) } else { 0 };
+    Draft::new(rng.below(2) as u8, start, nodes)
+}
+
+fn action(rng: &mut Rng, number: usize, states: usize, successors: usize, reach: usize, costs: Costs) -> Action {
+    let count = rng.between(1, successors);
+    Action { cost: cost(rng, costs).max(1), successors: draw_successors(rng, number, states, count, reach) }
+}
+
+/// So many states behind a number, as far as there are so many within reach.
+fn draw_successors(rng: &mut Rng, number: usize, states: usize, count: usize, reach: usize) -> Vec<u16> {
+    let far = reach.min(states - 1 - number);
+    let mut drawn = BTreeSet::new();
+    while drawn.len() < count.min(far) {
+        drawn.insert((number + rng.between(1, far)) as u16);
+    }
+    drawn.into_iter().collect()
+}
+
+fn cost(rng: &mut Rng, costs: Costs) -> u32 {
+    let cost = match costs {
+        Costs::Ties => rng.below(4),
+        Costs::Small => rng.below(41),
+        Costs::Steps => 50 * rng.below(41),
+        Costs::Wide => rng.below(1_000_001),
+        Costs::Top => rng.between(999_995, 1_000_000),
+    };
+    cost as u32
+}

@@ -1,0 +1,89 @@
+//! Questions 2 to 8, each put to the whole sheet before the next.
+
+use crate::reader::{has_head, number16, read};
+use crate::{Sheet, State, CEILING};
+
+/// The sheet, or the number of the first question that is answered no.
+pub fn accept(bytes: &[u8]) -> Result<Sheet, u32> {
+    if bytes.len() < 20 || bytes.len() > 60_000 {
+        return Err(2);
+    }
+    if !has_head(bytes) || bytes[3] > 1 {
+        return Err(3);
+    }
+    let count = number16(bytes, 4);
+    if !(1..=1024).contains(&count) || number16(bytes, 6) >= count {
+        return Err(3);
+    }
+    let Some(sheet) = read(bytes) else {
+        return Err(4);
+    };
+    if !sheet.states.iter().all(numbers_in_range) {
+        return Err(5);
+    }
+    if !(0..count).all(|s| successors_in_order(&sheet, s)) {
+        return Err(6);
+    }
+    if !(0..count).all(|s| value_not_above(&sheet, s)) {
+        return Err(7);
+    }
+    if !(0..count).all(|s| mark_earned(&sheet, s)) {
+        return Err(8);
+    }
+    Ok(sheet)
+}
+
+fn numbers_in_range(state: &State) -> bool {
+    if state.value > CEILING || state.mark > 1 {
+        return false;
+    }
+    if let Some(cost) = state.terminal_cost {
+        return cost <= 1_000_000;
+    }
+    for action in &state.actions {
+        if action.cost < 1 || action.cost > 1_000_000 {
+            return false;
+        }
+    }
+    if state.mark == 0 {
+        state.chosen == 0
+    } else {
+        state.chosen < state.actions.len()
+    }
+}
+
+fn successors_in_order(sheet: &Sheet, s: usize) -> bool {
+    for action in &sheet.states[s].actions {
+        let mut before = s;
+        for &successor in &action.successors {
+            if successor <= before || successor >= sheet.states.len() {
+                return false;
+            }
+            before = successor;
+        }
+    }
+    true
+}
+
+fn value_not_above(sheet: &Sheet, s: usize) -> bool {
+    let state = &sheet.states[s];
+    match state.terminal_cost {
+        Some(cost) => state.value <= cost,
+        None => (0..state.actions.len()).all(|a| state.value <= sheet.q_value(s, a)),
+    }
+}
+
+fn mark_earned(sheet: &Sheet, s: usize) -> bool {
+    let state = &sheet.states[s];
+    if state.mark == 0 {
+        return true;
+    }
+    match state.terminal_cost {
+        Some(cost) => state.value == cost,
+        None => {
+            let successors = &state.actions[state.chosen].successors;
+            let all_solved = successors.iter().all(|&t| sheet.states[t].mark == 1);
+            all_solved && state.value == sheet.q_value(s, state.chosen)
+        }
+    }
+}

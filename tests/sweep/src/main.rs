@@ -1,0 +1,13 @@
+//! Prints the least cost of the start of the sheet on standard input, cut to the ceiling, or `refused` and the number.
+
+use std::io::{self, Read};
+
+fn main() -> io::Result<()> {
+    let mut bytes = Vec::new();
+    io::stdin().read_to_end(&mut bytes)?;
+    match sweep::read(&bytes) {
+        Ok(sheet) => println!("{}", sheet.least_costs()[sheet.start]),
+        Err(number) => println!("refused {number}"),
+    }
+    Ok(())
+}
