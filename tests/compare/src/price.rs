@@ -17,7 +17,7 @@ pub fn expect(program: &str, bytes: &[u8], expected: &str) -> Result<(), String>
         return Ok(());
     }
     let found = String::from_utf8_lossy(&found);
-    Err(format!("price printed:\n{found}expected:\n{expected}"))
+    Err(format!("price printed {found:?}, expected {expected:?}"))
 }
 
 fn run(program: &str, bytes: &[u8]) -> std::io::Result<Vec<u8>> {

@@ -1,0 +1,30 @@
+-- `rows::lines::asked` is safe and ends. The part that is lent has the length that the test before it allows.
+use lib.Seq.{length-take-le}
+use mathlib.Core.Path.{sym}
+use native.Mathlib.Omega.{arith}
+use borrow.Author.Needs.{needs}
+use Rattle.rows.proofs.lines.asked.Statement.{statement}
+use Rattle.rows.proofs.lines.asked.Tie as tie
+
+slice-aggregate-check : tie.Need-slice-aggregate-check
+slice-aggregate-check c = sym (length-take-le _ _ (omega arith))
+
+check-requires : tie.Need-check-requires
+check-requires c κs = search needs
+
+verdict-requires : tie.Need-verdict-requires
+verdict-requires c κs = search needs
+
+same-length : tie.Need-same-length
+same-length c = search needs
+
+returns : tie.Need-returns
+returns c = search needs
+
+returns-2 : tie.Need-returns-2
+returns-2 c = search needs
+
+pub asked-spec : {M : Type 1} → statement M
+asked-spec =
+    tie.close
+    (tie.spec slice-aggregate-check check-requires verdict-requires same-length returns returns-2)
