@@ -1,21 +1,20 @@
 -- What a call leaves does not depend on how many entries above 1,024 its table has; and the host's function by the lengths of its slices.
 use Prim.Native.Nat.{ℕ, zero, suc, _+_, _-_, _*_, _<_, _≤_}
 use mathlib.Core.Path.{_≡_, refl, ap, sym, _∙_}
-use mathlib.Core.Bool.{Bool, true, false}
+use mathlib.Core.Bool.{true}
 use mathlib.Core.List.{List, [], _∷_, _++_, append-assoc}
 use native.Mathlib.Omega.{arith}
 use borrow.Author.Tests.{le-leb, lt-leb, leb-true}
-use lib.Dec.{eqb}
 use lib.ListN.{length, drop, replicate, length-append, length-replicate, replicate-append-replicate}
 use Rattle.model.specs.declared.Answer.{Answer}
 use Rattle.model.specs.Tests.{all-true}
 use Rattle.model.specs.Problem.{states}
-use Rattle.model.specs.Format.{terminalTag, be16, offsetsFrom}
-use Rattle.model.specs.Read.{tag, nodesRead, problemOf}
+use Rattle.model.specs.Format.{offsetsFrom}
+use Rattle.model.specs.Read.{problemOf}
 use Rattle.model.specs.Questions.{question1, question3, question9, sheetQuestions, firstNo, refusal, none-no}
 use Rattle.model.specs.Report.{number, refused, onRefusal, answerTo, bytesAfter, indexTable, refusedTable, tableAfter}
-use Rattle.ldfs.proofs.Solving.{Solved}
-use Rattle.layout.proofs.Index.{offsets-count}
+use Rattle.ldfs.specs.Made.{Solved}
+use Rattle.layout.proofs.Index.{states-read, offsets-count}
 use Rattle.host.specs.Host.{le64, entryBytes, lengthened, entries, hostNumber, hostSheet, hostTable, hostResult}
 
 -- a list filled up with zeros
@@ -39,18 +38,9 @@ filled-index ps m n few le =
 filled-zeros : (m n : ℕ) → m ≤ n → replicate n 0 ≡ lengthened (replicate m 0) n
 filled-zeros m n le = let z : m + (n - m) ≡ n = omega arith in sym (filled (replicate m 0) n (rw length-replicate le) ∙ rw (length-replicate, replicate-append-replicate, z))
 
-nodes-count : (n : ℕ) (r : List ℕ) → length (nodesRead n r) ≡ n
-unfolding nodesRead
-nodes-count zero r = refl
-nodes-count (suc n) r = go (eqb (tag r) terminalTag) refl (nodes-count n)
-  where
-    go : (b : Bool) → eqb (tag r) terminalTag ≡ b → ((r′ : List ℕ) → length (nodesRead n r′) ≡ n) → length (nodesRead (suc n) r) ≡ suc n
-    go true e more = rw e (ap suc (more _))
-    go false e more = rw e (ap suc (more _))
-
 few-stages : (s : List ℕ) → question3 s ≡ true → states (problemOf s) ≤ 1024
-unfolding question3 problemOf
-few-stages s h = omega (arith, nodes-count (be16 s 4) (drop 8 s), leb-true, all-true _ h)
+unfolding question3
+few-stages s h = omega (arith, states-read s, leb-true, all-true _ h)
 
 -- what a refused call leaves of zeros
 cleared : (n k : ℕ) → refusedTable (replicate n 0) k ≡ replicate n 0

@@ -10,14 +10,14 @@ use Rattle.model.specs.declared.Answer.{Answer}
 use Rattle.model.specs.declared.Outcome.{Outcome}
 use Rattle.model.specs.declared.Outcome.the-variants.{Settled, Over, Stopped}
 use Rattle.model.specs.Tests.{fork}
-use Rattle.model.specs.Problem.{Cell, states, cellOf, valueOf, solved}
+use Rattle.model.specs.Problem.{Problem, Cell, states, cellOf, valueOf, solved}
 use Rattle.model.specs.Format.{be16, offset, offsetsFrom, write}
 use Rattle.model.specs.Read.{problemOf, cellsOf}
 use Rattle.model.specs.QValue.{ceiling}
 use Rattle.model.specs.Questions.{question1, question9, Question, sheetQuestions, firstNo, sheetRefusal, refusal, accepted, AllYes, none-no, all-yes}
 use Rattle.model.specs.Ldfs.{Search, searchOf, work}
 use Rattle.model.specs.Report.{outcomeOf, cellsAfter, raisesOf, refused, onRefusal, answerTo, bytesAfter, indexTable, refusedTable, checkedTable, tableAfter}
-use Rattle.layout.specs.Shape.{Bytes}
+use Rattle.layout.specs.Shape.{Bytes, Shaped}
 use Rattle.layout.proofs.Index.{offsets-count, index-is}
 use Rattle.theory.proofs.Accepted.{asked-problem, asked-cells}
 use Rattle.theory.proofs.Sheets.{Stands, accepted-stands, refusals-left}
@@ -29,6 +29,7 @@ use Rattle.questions.proofs.Asking.{kind-is}
 use Rattle.ldfs.specs.declared.visits.Way.{Way}
 use Rattle.ldfs.specs.declared.visits.Way.the-variants.{Success, Failure, Halt}
 use Rattle.ldfs.specs.declared.passes.Passes.{Passes as PassesMade}
+use Rattle.ldfs.specs.Made.{Solved}
 use Rattle.ldfs.specs.Did.{search, visitOf, Workable, DidPasses, Finished}
 
 -- the start's number, and the head's bytes, of a sheet
@@ -39,6 +40,21 @@ start-is s = refl
 pub head-room : {s t : List ℕ} {i : ℕ} → Within s t i → 8 ≤ length s
 unfolding offset
 head-room {s} {t} {i} w = omega (arith, nine-room (w .sheet) i (w .below), w .sheet .table i (w .below))
+
+-- A table that holds the index makes a sheet of what is written.
+module _ (p : Problem) (n : ℕ) (le : states p ≤ n) where
+  pub index-length : length (indexTable p n) ≡ n
+  unfolding indexTable
+  index-length = rw (length-append, offsets-count 8 (p .nodes), length-replicate) (omega arith)
+
+  pub indexed : {s t : List ℕ} {cells : List Cell} → s ≡ write p cells → Shaped p cells → t ≡ indexTable p n → Sheet s t p cells
+  unfolding indexTable
+  indexed is shaped e = record {
+    is = is;
+    shaped = shaped;
+    wide = rw (e, index-length) le;
+    table = λ i lt. rw e (List·getD-append (offsetsFrom 8 (p .nodes)) _ 0 i (rw (offsets-count 8 (p .nodes)) lt) ∙ index-is p i lt);
+  }
 
 -- The answer of work that is done.
 search-of : (cells : List Cell) (way : Way) (r : ℕ) → searchOf (visitOf cells way r) ≡ search cells r
@@ -93,10 +109,6 @@ refused-more n (ask ∷ asked) more k h = go (ask tt) refl (refused-more (suc n)
     go true e ih = rw e (ih (rw e at h))
     go false e ih = rw e (rw e at h)
 
--- what `solve` promises of an answer, of the sheet and of the table
-abbrev pub Solved : List ℕ → List ℕ → ℕ → Answer → List ℕ → List ℕ → Type 0
-Solved s t budget r s′ t′ = (r ≡ answerTo s (length t) budget) × ((s′ ≡ bytesAfter s (length t) budget) × (t′ ≡ tableAfter s t budget))
-
 module _ (s t : List ℕ) (budget : ℕ) where
   -- by the refusal of the call
   refused-call : (k : ℕ) → refusal s (length t) budget ≡ suc k → (r : Answer) → r ≡ refused (suc k) → (t′ : List ℕ) → t′ ≡ refusedTable t (suc k) → Solved s t budget r s t′
@@ -150,17 +162,10 @@ module _ (s t : List ℕ) (budget : ℕ) where
       enough = omega (arith, leb-true 1024 (length t) (yes .0), stands .asked .shaped .most)
 
       long : length t′ ≡ length t
-      unfolding indexTable
-      long = rw (filled, length-append, offsets-count 8 (problemOf s .nodes), length-replicate) (omega (arith, enough))
+      long = ap length filled ∙ index-length (problemOf s) (length t) enough
 
       sheet : Sheet s t′ (problemOf s) (cellsOf s)
-      unfolding indexTable
-      sheet = record {
-        is = stands .is;
-        shaped = stands .asked .shaped;
-        wide = rw long enough;
-        table = λ i lt. rw filled (List·getD-append (offsetsFrom 8 (problemOf s .nodes)) _ 0 i (rw (offsets-count 8 (problemOf s .nodes)) lt) ∙ index-is (problemOf s) i lt);
-      }
+      sheet = indexed (problemOf s) (length t) enough (stands .is) (stands .asked .shaped) filled
 
       pub start-within : Within s t′ (problemOf s .start)
       start-within = record { sheet = sheet; below = stands .asked .shaped .start }

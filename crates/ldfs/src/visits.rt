@@ -105,6 +105,7 @@ pub fn visit_terminal(
     }
 }
 
+// The lesser of two prices.
 pub fn lesser(x: u32, y: u32) -> u32
     ensures { λ r. ⌜ r ≡ min x y ⌝ }
 {

@@ -2,7 +2,7 @@
 use Prim.Native.Nat.{ℕ}
 use mathlib.Core.Path.{_≡_}
 use mathlib.Core.Bool.{true}
-use mathlib.Core.List.{List}
+use mathlib.Core.List.{List, [], _∷_, _++_}
 use borrow.Author.Tests.{eq-eqb, eqb-true}
 use Rattle.model.specs.Tests.{fork}
 use Rattle.model.specs.Problem.{Problem, Cell}
@@ -50,3 +50,10 @@ module _ (s : List ℕ) (p : Problem) (cells : List Cell) (h : Stands s p cells)
   pub refusals-left : (entries budget : ℕ) → refusal s entries budget ≡ fork (question1 entries) (λ _. fork (question9 budget) (λ _. 0) (λ _. 9)) (λ _. 1)
   unfolding refusal firstNo
   refusals-left entries budget = let y = yes in rw (y .0, y .1 .0, y .1 .1 .0, y .1 .1 .1 .0, y .1 .1 .1 .1 .0, y .1 .1 .1 .1 .1 .0, y .1 .1 .1 .1 .1 .1 .0)
+
+-- a call that is not refused has a table that is long enough, and an accepted sheet
+pub unrefused : (s : List ℕ) (entries budget : ℕ) → refusal s entries budget ≡ 0 → (question1 entries ≡ true) × (accepted s ≡ true)
+unfolding refusal accepted
+unrefused s entries budget e =
+    let y = none-no 0 ((λ _. question1 entries) ∷ sheetQuestions s ++ ((λ _. question9 budget) ∷ [])) e in
+    (y .0, eq-eqb _ _ (all-yes 2 (sheetQuestions s) (y .1 .0, (y .1 .1 .0, (y .1 .1 .1 .0, (y .1 .1 .1 .1 .0, (y .1 .1 .1 .1 .1 .0, (y .1 .1 .1 .1 .1 .1 .0, (y .1 .1 .1 .1 .1 .1 .1 .0, tt)))))))))
