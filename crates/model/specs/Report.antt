@@ -1,7 +1,7 @@
 -- unfolding: computing
 -- use: Rattle.model.specs.Report.{computing}
 -- One call on a sheet: bytes, table and budget in; the answer, the bytes and the table after. Refusals included.
-use Prim.Native.Nat.{ℕ, zero, suc, _-_}
+use Prim.Native.Nat.{ℕ, zero, suc, _-_, _^_}
 use mathlib.Core.List.{List, [], _∷_, _++_}
 use lib.Dec.{ltb}
 use lib.ListN.{length, replicate}
@@ -37,6 +37,10 @@ cellsAfter r = searchOf (r .ended) .cells
 
 abbrev pub raisesOf : Passes → ℕ
 raisesOf r = searchOf (r .ended) .raises
+
+-- the largest allowance that a call can be given
+abbrev pub largest : ℕ
+largest = 2 ^ 64 - 1
 
 -- the answer to a call that is refused, and to one that has worked
 abbrev pub refused : ℕ → Answer

@@ -1,5 +1,5 @@
 -- The worked rows of document 01, in one table, and one proof across it that the definitions give what is expected.
-use Prim.Native.Nat.{ℕ, zero, suc, _+_, _*_, _-_, _^_, _<_, min}
+use Prim.Native.Nat.{ℕ, zero, suc, _+_, _*_, _^_, _<_, min}
 use mathlib.Core.Path.{_≡_, refl}
 use mathlib.Core.Bool.{Bool, true, false}
 use mathlib.Core.List.{List, [], _∷_, _++_}
@@ -11,7 +11,7 @@ use Rattle.model.specs.Tests.{also, never, also-true}
 use Rattle.model.specs.Problem.{worst, whole, action, Node, terminal, decision, problem, Cell, cell}
 use Rattle.model.specs.Format.{bytes2, successorsBytes, write}
 use Rattle.model.specs.Questions.{refusal}
-use Rattle.model.specs.Report.{report, bytesAfter, tableAfter, computing}
+use Rattle.model.specs.Report.{largest, report, bytesAfter, tableAfter, computing}
 
 -- what a row says: outcome, price, passes and raises in numbers, or that the sheet is accepted
 pub data Expected : Type 0 where
@@ -101,9 +101,6 @@ doubled (suc i) = cell (min (1000000 * 2 ^ suc i) 1000000000) 1 0 ∷ doubled i
 
 abbrev atCeiling : ℕ → List ℕ
 atCeiling m = write (problem whole 0 (decision (action 1 (upFrom 1 m) ∷ []) ∷ doubling 1 (9 + m))) (cell 1000000000 1 0 ∷ doubled (9 + m))
-
-abbrev pub largest : ℕ
-largest = 2 ^ 64 - 1
 
 -- a row with a table of 1,024 entries
 abbrev row : List ℕ → ℕ → Expected → Row

@@ -14,7 +14,8 @@ use Rattle.model.specs.Read.{problemOf, cellsOf}
 use Rattle.model.specs.Report.{computing, numbers}
 use Rattle.model.specs.Calls.{Call, afterAll, answers}
 use Rattle.model.specs.Demand3.{Accepted, Best, Demand3}
-use Rattle.model.specs.Rows.{sheetA, largest}
+use Rattle.model.specs.Report.{largest}
+use Rattle.model.specs.Rows.{sheetA}
 use Rattle.layout.specs.Shape.{Bytes}
 use Rattle.theory.proofs.Basics.{lt-or-le}
 use Rattle.theory.proofs.Demand.{demand3}
