@@ -1,0 +1,5 @@
+pub mod Writing
+pub mod Reaching
+pub mod Choices
+pub mod After
+pub mod Promises

@@ -1,0 +1,91 @@
+-- The promise of a listing: the stages that it has lines for are those that the plan written in the sheet reaches from the start.
+use Prim.Native.Nat.{ℕ, zero, suc, _≤_}
+use mathlib.Core.Path.{_≡_, refl, sym, subst}
+use mathlib.Core.Bool.{Bool, true, false, _||_}
+use mathlib.Core.Logic.{_⊎_, inl, inr, ⊎-elim}
+use mathlib.Core.List.{List, [], _∷_}
+use native.Mathlib.Omega.{arith}
+use native.Mathlib.Nat.{eq-or-lt-of-le}
+use borrow.Author.Tests.{eqb-true, eq-eqb}
+use lib.Dec.{eqb}
+use Rattle.model.specs.Tests.{never, also-true, true-also}
+use Rattle.model.specs.Problem.{Node, terminal, decision, Problem, Cell, nodeAt, actionAt, cellOf, _∈_, here, there}
+use Rattle.model.specs.Read.{problemOf, cellsOf}
+use Rattle.model.specs.Policy.{Reach, arrived, onward, written}
+use Rattle.model.specs.Demand3.{Accepted}
+use Rattle.theory.specs.Consistent.{WellFormed}
+use Rattle.theory.proofs.Sheets.{accepted-stands}
+use Rattle.theory.proofs.Promises.{problem-of}
+use Rattle.listing.specs.Listing.{findingsOf, findings, listed, reachedBelow, reached}
+
+-- a test or another
+or-true : (a b : Bool) → (a || b) ≡ true → (a ≡ true) ⊎ (b ≡ true)
+or-true true b h = inl refl
+or-true false b h = inr h
+
+or-left : (a b : Bool) → a ≡ true → (a || b) ≡ true
+or-left a b h = rw h
+
+or-right : (a b : Bool) → b ≡ true → (a || b) ≡ true
+or-right true b h = refl
+or-right false b h = h
+
+-- the test of a list is that a number is in it
+listed-in : (t : ℕ) (ts : List ℕ) → listed t ts ≡ true → t ∈ ts
+unfolding listed
+listed-in t [] h = never h
+listed-in t (u ∷ us) h = ⊎-elim (λ e. rw (eqb-true t u e) here) (λ e. there (listed-in t us e)) (or-true (eqb t u) (listed t us) h)
+
+in-listed : {t : ℕ} {ts : List ℕ} → t ∈ ts → listed t ts ≡ true
+unfolding listed
+in-listed (here {t} {ts}) = or-left (eqb t t) (listed t ts) (eq-eqb t t refl)
+in-listed (there {t} {u} {ts} m) = or-right (eqb t u) (listed t ts) (in-listed m)
+
+module _ (p : Problem) (cells : List Cell) where
+  -- one step more, at the end
+  step : (s t : ℕ) → Reach p (written cells) s t → (u : ℕ) → u ∈ findings p cells t → Reach p (written cells) s u
+  step s t arrived u m = go (nodeAt p t) refl m
+    where
+      go : (n : Node) → nodeAt p t ≡ n → u ∈ findingsOf n (cellOf cells t) → Reach p (written cells) t u
+      go (terminal cost) e m = absurd (elim m [ ])
+      go (decision acts) e m = onward e refl m arrived
+  step s t (onward e i v r) u m = onward e i v (step _ t r u m)
+
+  reached-reach : (n t : ℕ) → reachedBelow p cells n t ≡ true → Reach p (written cells) (p .start) t
+  unfolding reachedBelow
+  reached-reach zero t h = rw (eqb-true t (p .start) h) arrived
+  reached-reach (suc n) t h =
+      ⊎-elim (λ e. reached-reach n t e)
+      (λ e. let g = also-true _ _ e in step (p .start) n (reached-reach n n (g .0)) t (listed-in t (findings p cells n) (g .1)))
+      (or-true (reachedBelow p cells n t) _ h)
+
+  -- what is reached stays so when more stages are looked at
+  more : (n t : ℕ) → reachedBelow p cells n t ≡ true → (m : ℕ) → n ≤ m → reachedBelow p cells m t ≡ true
+  unfolding reachedBelow
+  more n t h zero le = let e : n ≡ 0 = omega arith in rw e at h
+  more n t h (suc m) le =
+      ⊎-elim (λ e. rw e at h) (λ l. or-left (reachedBelow p cells m t) _ (more n t h m (omega arith))) (eq-or-lt-of-le le)
+
+  module _ (wf : WellFormed p) where
+    onwards : {s t : ℕ} → Reach p (written cells) s t → reached p cells s ≡ true → reached p cells t ≡ true
+    unfolding reachedBelow
+    onwards arrived h = h
+    onwards (onward {s} {u} {t} {i} {acts} e c v r) h = onwards r (more (suc s) u next u (wf .forward s (cellOf cells s .chosen) u acts e m .0))
+      where
+        m : u ∈ actionAt acts (cellOf cells s .chosen) .successors
+        m = let same : cellOf cells s .chosen ≡ i = cc in rw same v
+
+        found : u ∈ findings p cells s
+        found = subst (λ (n : Node). u ∈ findingsOf n (cellOf cells s)) (sym e) m
+
+        next : reachedBelow p cells (suc s) u ≡ true
+        next = or-right (reachedBelow p cells s u) _ (true-also _ _ h (in-listed found))
+
+    -- the lines are of the stages that the plan reaches
+    pub reached-is : (t : ℕ) → (reached p cells t ≡ true → Reach p (written cells) (p .start) t) × (Reach p (written cells) (p .start) t → reached p cells t ≡ true)
+    unfolding reachedBelow
+    reached-is t = (reached-reach t t, λ r. onwards r (more 0 (p .start) (eq-eqb (p .start) (p .start) refl) (p .start) (omega arith)))
+
+-- of an accepted sheet
+pub listed-is-reached : (s : List ℕ) → Accepted s → (t : ℕ) → (reached (problemOf s) (cellsOf s) t ≡ true → Reach (problemOf s) (written (cellsOf s)) (problemOf s .start) t) × (Reach (problemOf s) (written (cellsOf s)) (problemOf s .start) t → reached (problemOf s) (cellsOf s) t ≡ true)
+listed-is-reached s acc = reached-is (problemOf s) (cellsOf s) (problem-of (accepted-stands s (acc .bytes) (acc .yes)))

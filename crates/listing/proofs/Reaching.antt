@@ -1,0 +1,157 @@
+-- The stages that the plan reaches: the definition's test of them, and flags that hold it.
+use Prim.Native.Nat.{ℕ, _+_, _*_, _<_, _≤_}
+use mathlib.Core.Path.{_≡_, refl, ap, sym, _∙_}
+use mathlib.Core.Bool.{Bool, true, false, _||_}
+use mathlib.Core.List.{List, [], _∷_, _++_, append-nil}
+use native.Mathlib.Omega.{arith}
+use native.Mathlib.Numerals.{add-one}
+use borrow.Author.Tests.{eqb-true, eqb-false}
+use lib.Dec.{eqb}
+use lib.ListN.{length, getD, take, drop, set, replicate, length-set, length-replicate, getD-replicate}
+use lib.Seq.{take-all, take-suc, getD-set-same, getD-set-other}
+use Rattle.model.specs.Tests.{also}
+use Rattle.model.specs.Problem.{Action, Node, decision, Problem, Cell, states, nodeAt, actionAt, cellOf, solved}
+use Rattle.model.specs.Format.{actionOffset}
+use Rattle.model.specs.Read.{actionFits, actionRead, problemOf, cellsOf}
+use Rattle.sheet.specs.Sheet.{Within, Terminal, Decision}
+use Rattle.sheet.proofs.Laws.{is-terminal, is-decision, actionsAt}
+use Rattle.ldfs.proofs.Actions.{Turn, turn-is, turn-fits, turn-priced}
+use Rattle.listing.specs.Listing.{stateLine, findingsOf, findings, listed, reachedBelow, stateLines}
+use Rattle.listing.specs.Put.{Wrote, Worked, raised}
+use Rattle.listing.proofs.Writing.{wrote-none, wrote-length, wrote-behind}
+
+-- flags that go up one after the other
+raised-last : (f : List Bool) (ts : List ℕ) (t : ℕ) → raised f (ts ++ t ∷ []) ≡ set (raised f ts) t true
+unfolding raised
+raised-last f [] t = refl
+raised-last f (u ∷ ts) t = raised-last (set f u true) ts t
+
+pub raised-none : (f : List Bool) → raised f [] ≡ f
+unfolding raised
+raised-none f = refl
+
+pub raised-length : (f : List Bool) (ts : List ℕ) → length (raised f ts) ≡ length f
+unfolding raised
+raised-length f [] = refl
+raised-length f (t ∷ ts) = raised-length (set f t true) ts ∙ length-set f t true
+
+module _ (f : List Bool) (ts : List ℕ) (j m : ℕ) (count : m ≡ length ts) where
+  pub raised-more : j < m → (t : ℕ) → t ≡ getD ts j 0 → set (raised f (take j ts)) t true ≡ raised f (take (j + 1) ts)
+  raised-more lt t e = rw (add-one, take-suc ts j 0 (omega arith), ← e) (sym (raised-last f (take j ts) t))
+
+  pub raised-all : m ≤ j → raised f (take j ts) ≡ raised f ts
+  raised-all le = rw (take-all j ts (omega arith))
+
+  pub raised-room : j < m → (g : List Bool) → g ≡ raised f (take j ts) → (t : ℕ) → t ≡ getD ts j 0 → ((i : ℕ) → i < length ts → getD ts i 0 < length f) → t < length g
+  raised-room lt g e t is below = rw (e, raised-length f (take j ts), is) (below j (omega arith))
+
+-- which flags are up then
+or-false : (b : Bool) → b ≡ (b || false)
+or-false true = refl
+or-false false = refl
+
+pub raised-at : (f : List Bool) (ts : List ℕ) (t : ℕ) → t < length f → getD (raised f ts) t false ≡ (getD f t false || listed t ts)
+unfolding raised listed
+raised-at f [] t lt = or-false (getD f t false)
+raised-at f (u ∷ ts) t lt = raised-at (set f u true) ts t (rw length-set lt) ∙ go (eqb t u) refl (getD f t false) refl
+  where
+    go : (b : Bool) → eqb t u ≡ b → (g : Bool) → getD f t false ≡ g → (getD (set f u true) t false || listed t ts) ≡ (g || (b || listed t ts))
+    go true e true k = rw (eqb-true t u e, getD-set-same f u true false (rw (eqb-true t u e) at lt))
+    go true e false k = rw (eqb-true t u e, getD-set-same f u true false (rw (eqb-true t u e) at lt))
+    go false e true k = rw (getD-set-other f u t true false (eqb-false t u e), k)
+    go false e false k = rw (getD-set-other f u t true false (eqb-false t u e), k)
+
+-- a stage of a worked sheet
+pub stage : {s t : List ℕ} {i : ℕ} → Worked s t → i < states (problemOf s) → Within s t i
+stage w lt = record { sheet = w .sheet; below = lt }
+
+-- The check that is chosen at a junction of a worked sheet.
+module _ {s t : List ℕ} (w : Worked s t) {i : ℕ} (d : Decision s t i) (k : ℕ) (is : k ≡ cellOf (cellsOf s) i .chosen) where
+  node : nodeAt (problemOf s) i ≡ decision (actionsAt (problemOf s) i)
+  node = is-decision (nodeAt (problemOf s) i) (d .tag)
+
+  pub chosen-exists : k < length (actionsAt (problemOf s) i)
+  chosen-exists = rw is (go (solved (cellOf (cellsOf s) i)) refl)
+    where
+      go : (b : Bool) → solved (cellOf (cellsOf s) i) ≡ b → cellOf (cellsOf s) i .chosen < length (actionsAt (problemOf s) i)
+      go true e = w .consistent .sound i .settles (actionsAt (problemOf s) i) node e .exists
+      go false e = rw (w .consistent .sound i .unchosen e) (w .formed .has-action i (actionsAt (problemOf s) i) node)
+
+  module _ (o : ℕ) (at : o ≡ actionOffset (problemOf s) i k) where
+    turn : Turn (problemOf s) i k o
+    turn = record { formed = w .formed; below = d .within .below; tag = d .tag; exists = chosen-exists; place = at }
+
+    pub chosen-fits : actionFits (drop o s) ≡ true
+    chosen-fits = turn-fits turn (d .within .sheet)
+
+    pub chosen-below : (n : ℕ) → states (problemOf s) ≤ n → (j : ℕ) → j < length (actionRead (drop o s) .successors) → getD (actionRead (drop o s) .successors) j 0 < n
+    chosen-below n le j lt = omega (arith, turn-priced turn (d .within .sheet) .below j lt)
+
+    pub chosen-findings : actionRead (drop o s) .successors ≡ findings (problemOf s) (cellsOf s) i
+    chosen-findings =
+        ap (λ (a : Action). a .successors) (turn-is turn (d .within .sheet)) ∙ ap (λ (x : ℕ). actionAt (actionsAt (problemOf s) i) x .successors) is
+        ∙ sym (ap (λ (n : Node). findingsOf n (cellOf (cellsOf s) i)) node)
+
+pub no-findings : {s t : List ℕ} {i : ℕ} → Terminal s t i → findings (problemOf s) (cellsOf s) i ≡ []
+no-findings {s} {t} {i} h = rw (is-terminal (nodeAt (problemOf s) i) (h .tag))
+
+-- The pass over the stages: the lines of those below s that are reached are written, and the flags say which the stages below s reach.
+pub record Lined (p : Problem) (cells : List Cell) (n m : ℕ) (out₀ : List ℕ) (at : ℕ) (flags : List Bool) (out : List ℕ) (next s : ℕ) : Type 0 where
+  pub upto : s ≤ n
+  pub text : Wrote out₀ out at next (stateLines p cells s)
+  pub most : next ≤ at + 81 * s
+  pub wide : length flags ≡ m
+  pub up : (t : ℕ) → t < n → getD flags t false ≡ reachedBelow p cells s t
+
+module _ (p : Problem) (cells : List Cell) (n m : ℕ) (out₀ : List ℕ) (at : ℕ) where
+  pub lined-none : (flags : List Bool) → length flags ≡ m → ((t : ℕ) → t < n → getD flags t false ≡ reachedBelow p cells 0 t) → at ≤ length out₀ → Lined p cells n m out₀ at flags out₀ at 0
+  unfolding stateLines
+  lined-none flags wide up room = record { upto = omega arith; text = wrote-none out₀ at room; most = omega arith; wide = wide; up = up }
+
+  module _ {flags : List Bool} {out : List ℕ} {next s : ℕ} (h : Lined p cells n m out₀ at flags out next s) where
+    pub lined-all : n ≤ s → Wrote out₀ out at next (stateLines p cells n)
+    lined-all le = let e : s ≡ n = omega (arith, h .upto) in rw e at (h .text)
+
+    pub lined-room : s < n → at + 81 * n ≤ length out₀ → next + 81 ≤ length out
+    lined-room lt room = omega (arith, h .most, wrote-length (h .text))
+
+    module _ (lt : s < n) (le : n ≤ m) where
+      pub lined-state : getD flags s false ≡ true → {out′ : List ℕ} {next′ : ℕ} → Wrote out out′ next next′ (stateLine p cells s) → next′ ≤ next + 81 → {flags′ : List Bool} → flags′ ≡ raised flags (findings p cells s) →
+          Lined p cells n m out₀ at flags′ out′ next′ (s + 1)
+      unfolding stateLines reachedBelow also
+      lined-state e {out′} {next′} w few {flags′} up = record {
+        upto = omega arith;
+        text = rw (add-one, reached-now) (wrote-behind (h .text) w);
+        most = omega (arith, h .most);
+        wide = rw up (raised-length flags (findings p cells s) ∙ h .wide);
+        up = λ t l. rw (add-one, up, reached-now) (raised-at flags (findings p cells s) t (omega (arith, h .wide)) ∙ rw (h .up t l));
+      }
+        where
+          reached-now : reachedBelow p cells s s ≡ true
+          reached-now = sym (h .up s lt) ∙ e
+
+      pub lined-skip : getD flags s false ≡ false → Lined p cells n m out₀ at flags out next (s + 1)
+      unfolding stateLines reachedBelow also
+      lined-skip e = record {
+        upto = omega arith;
+        text = rw (add-one, not-reached, append-nil) (h .text);
+        most = omega (arith, h .most);
+        wide = h .wide;
+        up = λ t l. rw (add-one, not-reached) (h .up t l ∙ or-false (reachedBelow p cells s t));
+      }
+        where
+          not-reached : reachedBelow p cells s s ≡ false
+          not-reached = sym (h .up s lt) ∙ e
+
+-- at the outset the start's flag alone is up
+module _ (f : List Bool) (m : ℕ) (down : f ≡ replicate m false) where
+  pub flags-count : length f ≡ m
+  flags-count = rw (down, length-replicate)
+
+  pub started : (p : Problem) (cells : List Cell) (start : ℕ) → start ≡ p .start → (t : ℕ) → t < m → getD (set f start true) t false ≡ reachedBelow p cells 0 t
+  unfolding reachedBelow
+  started p cells start e t lt = rw (← e) (go (eqb t start) refl)
+    where
+      go : (b : Bool) → eqb t start ≡ b → getD (set f start true) t false ≡ b
+      go true k = rw (← eqb-true t start k) (getD-set-same f t true false (rw flags-count lt))
+      go false k = getD-set-other f start t true false (eqb-false t start k) ∙ rw (down, getD-replicate m t false false lt)

@@ -1,0 +1,55 @@
+use mathlib.Core.Path.{refl}
+use native.Mathlib.Omega.{arith}
+use Rattle.listing.proofs.Writing.{wrote-none}
+use borrow.Author.Needs.{needs}
+use Rattle.listing.proofs.plan.put_plan.Statement.{statement}
+use Rattle.listing.proofs.plan.put_plan.Tie as tie
+
+enum-told : tie.Need-enum-told
+enum-told c = search needs
+
+slice-aggregate-put-reached : tie.Need-slice-aggregate-put-reached
+slice-aggregate-put-reached c = search needs
+
+put-reached-requires : tie.Need-put-reached-requires
+put-reached-requires c κs = (c .before .before .before .before .before .before .before .pre .0 (c .before .before .enum-told .given .1), (refl, c .before .before .before .before .before .before .before .pre .1))
+
+enum-told-2 : tie.Need-enum-told-2
+enum-told-2 c = search needs
+
+enum-told-3 : tie.Need-enum-told-3
+enum-told-3 c = search needs
+
+enum-told-4 : tie.Need-enum-told-4
+enum-told-4 c = search needs
+
+same-length : tie.Need-same-length
+same-length c = search needs
+
+returns : tie.Need-returns
+returns c = rw (c .before .before .before .before .before .before .enum-told .given .1) (c .before .before .before .put-reached .ensures)
+
+returns-2 : tie.Need-returns-2
+returns-2 c = rw (c .enum-told2 .given .1) (wrote-none _ _ (omega arith))
+
+returns-3 : tie.Need-returns-3
+returns-3 c = rw (c .enum-told3 .given .1) (wrote-none _ _ (omega arith))
+
+returns-4 : tie.Need-returns-4
+returns-4 c = rw (c .enum-told4 .given .1) (wrote-none _ _ (omega arith))
+
+pub put-plan-spec : {M : Type 1} → statement M
+put-plan-spec =
+    tie.close
+    (tie.spec
+    enum-told
+    slice-aggregate-put-reached
+    put-reached-requires
+    enum-told-2
+    enum-told-3
+    enum-told-4
+    same-length
+    returns
+    returns-2
+    returns-3
+    returns-4)

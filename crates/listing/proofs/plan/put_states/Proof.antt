@@ -1,0 +1,63 @@
+use Prim.Native.Nat.{_-_}
+use mathlib.Core.Logic.{⊎-elim}
+use mathlib.Core.Path.{refl}
+use native.Mathlib.Omega.{arith}
+use lib.ListN.{length}
+use Rattle.model.specs.Read.{problemOf, cellsOf}
+use Rattle.listing.proofs.Writing.{wrote-length}
+use Rattle.listing.proofs.Reaching.{stage, Lined, lined-none, lined-all, lined-room, lined-state, lined-skip}
+use Rattle.listing.proofs.plan.put_states.Statement.{statement}
+use Rattle.listing.proofs.plan.put_states.Tie as tie
+
+abbrev Inv-loop : tie.InvT-loop
+Inv-loop sheet table flags₀ out₀ at n next₀ s₀ flags out next s = Lined (problemOf sheet) (cellsOf sheet) n (length flags₀) out₀ at flags out next s
+
+abbrev μ-loop : tie.MeasureT-loop
+μ-loop sheet table flags₀ out₀ at n next₀ s₀ flags out next s = n - s
+
+loop-holds : tie.Need-loop-holds Inv-loop μ-loop
+loop-holds c = lined-none _ _ _ _ _ _ _ refl (c .before .before .before .before .pre .1 .1 .0) (omega (arith, c .before .before .before .before .pre .1 .1 .1))
+
+slice-read-if1 : tie.Need-slice-read-if1 Inv-loop μ-loop
+slice-read-if1 c = omega (arith, c .before .before .loop .inv .wide, c .before .before .before .before .before .before .before .pre .1 .0 .1)
+
+put-state-requires : tie.Need-put-state-requires Inv-loop μ-loop
+put-state-requires c κs = (stage (c .before .before .before .before .before .before .before .before .before .pre .0) (omega (arith, c .before .before .before .before .before .before .before .before .before .pre .1 .0 .0)), lined-room _ _ _ _ _ _ (c .before .before .before .before .loop .inv) (c .before .before .before .loop-test .taken) (c .before .before .before .before .before .before .before .before .before .pre .1 .1 .1))
+
+reach-on-requires : tie.Need-reach-on-requires Inv-loop μ-loop
+reach-on-requires c κs = (c .before .before .before .before .before .before .before .before .before .before .before .before .before .pre .0, (omega (arith, c .before .before .before .before .before .before .before .before .before .before .before .before .before .pre .1 .0 .0), omega (arith, c .before .before .before .before .before .before .before .before .before .before .before .before .before .pre .1 .0, c .before .before .before .before .before .before .before .before .loop .inv .wide)))
+
+add-s : tie.Need-add-s Inv-loop μ-loop
+add-s c = omega arith
+
+loop-less : tie.Need-loop-less Inv-loop μ-loop
+loop-less c = omega arith
+
+loop-again : tie.Need-loop-again Inv-loop μ-loop
+loop-again c = let L = c .before .before .before .loop in let l = c .before .before .loop-test .taken in let few = c .before .before .before .before .before .before .before .before .pre .1 .0 .1 in ⊎-elim (λ w. rw (w .9, w .10, w .11) (lined-state _ _ _ _ _ _ (L .inv) l few (w .0 .taken) (w .2 .ensures .0) (w .2 .ensures .1) (w .6 .ensures))) (λ w. rw (w .1, w .2, w .3) (lined-skip _ _ _ _ _ _ (L .inv) l few (w .0 .left))) (c .if1 .came)
+
+same-length : tie.Need-same-length Inv-loop μ-loop
+same-length c = c .before .loop .inv .wide
+
+same-length-2 : tie.Need-same-length-2 Inv-loop μ-loop
+same-length-2 c = wrote-length (c .before .loop .inv .text)
+
+returns : tie.Need-returns Inv-loop μ-loop
+returns c = lined-all _ _ _ _ _ _ (c .before .loop .inv) (c .loop-test .left)
+
+pub put-states-spec : {M : Type 1} → statement M
+put-states-spec =
+    tie.close
+    (tie.spec
+    Inv-loop
+    μ-loop
+    loop-holds
+    slice-read-if1
+    put-state-requires
+    reach-on-requires
+    add-s
+    loop-less
+    loop-again
+    same-length
+    same-length-2
+    returns)

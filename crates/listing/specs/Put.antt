@@ -1,0 +1,26 @@
+-- What the contracts of the private functions say.
+use Prim.Native.Nat.{ℕ, _+_, _≤_}
+use mathlib.Core.Path.{_≡_}
+use mathlib.Core.Bool.{Bool, true}
+use mathlib.Core.List.{List, [], _∷_, _++_}
+use lib.ListN.{length, take, drop, set}
+use Rattle.model.specs.Read.{problemOf, cellsOf}
+use Rattle.sheet.specs.Sheet.{Sheet}
+use Rattle.theory.specs.Consistent.{WellFormed, Consistent}
+
+-- a text was written into a buffer at a place, and the rest of the buffer kept
+pub record Wrote (before after : List ℕ) (at next : ℕ) (text : List ℕ) : Type 0 where
+  pub room : at + length text ≤ length before
+  pub bytes : after ≡ take at before ++ (text ++ drop (at + length text) before)
+  pub behind : next ≡ at + length text
+
+-- a sheet that has been worked
+pub record Worked (s t : List ℕ) : Type 0 where
+  pub sheet : Sheet s t (problemOf s) (cellsOf s)
+  pub formed : WellFormed (problemOf s)
+  pub consistent : Consistent (problemOf s) (cellsOf s)
+
+-- flags with some more of them up
+unfoldable pub raised : List Bool → List ℕ → List Bool
+raised flags [] = flags
+raised flags (t ∷ ts) = raised (set flags t true) ts

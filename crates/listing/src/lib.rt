@@ -1,0 +1,37 @@
+// The text that `price` prints, into a lent buffer.
+mod text; // text.rt: words and numbers
+mod lines; // lines.rt: the lines of a listing
+mod plan; // plan.rt: the stages that the plan reaches
+
+ghost use mathlib.Core.Path.{_≡_};
+ghost use Rattle.listing.specs.Listing.{listedAs, sheetListed, tableListed, textListed};
+use ldfs::solve;
+use lines::put_answer;
+use plan::put_plan;
+
+// The bytes that a buffer must have: no listing has more.
+pub const ENOUGH: usize = 84000;
+
+// What became of a listing: the number of its bytes, or that the buffer is too short for one.
+pub enum Listed {
+    TooShort,
+    Written(usize),
+}
+
+// Works a sheet with the largest allowance, and writes its listing at the beginning of `out`. A buffer of fewer than `ENOUGH` bytes is too short: nothing is
+// worked then, and nothing written.
+pub fn list(sheet: &mut [u8], table: &mut [u32], out: &mut [u8]) -> Listed
+    ensures answer { λ r. ⌜ r ≡ listedAs (now (sheet .entry)) (now (table .entry)) (now (out .entry)) ⌝ }
+    ensures sheet { λ _. ⌜ now (sheet .exit) ≡ sheetListed (now (sheet .entry)) (now (table .entry)) (now (out .entry)) ⌝ }
+    ensures table { λ _. ⌜ now (table .exit) ≡ tableListed (now (sheet .entry)) (now (table .entry)) (now (out .entry)) ⌝ }
+    ensures text { λ _. ⌜ now (out .exit) ≡ textListed (now (sheet .entry)) (now (table .entry)) (now (out .entry)) ⌝ }
+{
+    if out.len() < ENOUGH {
+        return Listed::TooShort;
+    }
+    let a = solve(sheet, table, u64::MAX);
+    let o = a.outcome;
+    let next = put_answer(out, 0, a);
+    let end = put_plan(sheet, table, out, next, o);
+    Listed::Written(end)
+}

@@ -1,0 +1,88 @@
+// The lines of a listing.
+ghost use mathlib.Core.List.{_++_};
+ghost use Prim.Native.Nat.{_+_, _≤_};
+ghost use lib.ListN.{length};
+ghost use Rattle.model.specs.Problem.{nodeAt, cellOf};
+ghost use Rattle.model.specs.Read.{problemOf, cellsOf};
+ghost use Rattle.sheet.specs.Sheet.{Within};
+ghost use Rattle.listing.specs.Text.{ascii};
+ghost use Rattle.listing.specs.Listing.{field, figures, lineOne, choiceOf, stateLine};
+ghost use Rattle.listing.specs.Put.{Wrote};
+use super::text::put_field;
+use super::text::put_word;
+use model::Answer;
+use model::Outcome;
+use sheet::fields::chosen_at;
+use sheet::fields::is_terminal;
+use sheet::fields::value_at;
+use sheet::numbers::long;
+use sheet::numbers::wide;
+
+// `refused` and the number.
+pub fn put_refused(out: &mut [u8], at: usize, n: u32) -> usize
+    requires { ⌜ at + 29 ≤ length (now out) ⌝ }
+    ensures { λ r. ⌜ Wrote (now (out .entry)) (now (out .exit)) at r (field (ascii "refused ") n ++ ascii "\n") ⌝ }
+    ensures { λ r. ⌜ r ≤ at + 29 ⌝ }
+{
+    let next = put_field(out, at, b"refused ", long(n));
+    put_word(out, next, b"\n")
+}
+
+// An outcome's word, the start's value, passes and raises.
+pub fn put_figures(out: &mut [u8], at: usize, word: &[u8], a: Answer) -> usize
+    requires { ⌜ at + length (now word) + 63 ≤ length (now out) ⌝ }
+    ensures { λ r. ⌜ Wrote (now (out .entry)) (now (out .exit)) at r (figures (now (word .entry)) a) ⌝ }
+    ensures { λ r. ⌜ r ≤ at + length (now (word .entry)) + 63 ⌝ }
+{
+    let next = put_field(out, at, word, a.price);
+    let next = put_field(out, next, b" ", a.passes);
+    let next = put_field(out, next, b" ", a.raises);
+    put_word(out, next, b"\n")
+}
+
+// Line one of a listing.
+pub fn put_answer(out: &mut [u8], at: usize, a: Answer) -> usize
+    requires { ⌜ at + 71 ≤ length (now out) ⌝ }
+    ensures { λ r. ⌜ Wrote (now (out .entry)) (now (out .exit)) at r (lineOne a) ⌝ }
+    ensures { λ r. ⌜ r ≤ at + 71 ⌝ }
+{
+    let o = a.outcome;
+    match o {
+        Outcome::Refused(n) => put_refused(out, at, n),
+        Outcome::Settled => put_figures(out, at, b"settled ", a),
+        Outcome::Over => put_figures(out, at, b"over ", a),
+        Outcome::Stopped => put_figures(out, at, b"stopped ", a),
+    }
+}
+
+// A stage's chosen check, or `end`.
+pub fn put_choice(sheet: &[u8], table: &[u32], out: &mut [u8], at: usize, state: usize) -> usize
+    requires { ⌜ Within (now sheet) (now table) state ⌝ }
+    requires { ⌜ at + 27 ≤ length (now out) ⌝ }
+    ensures { λ r. ⌜ Wrote (now (out .entry)) (now (out .exit)) at r (choiceOf (nodeAt (problemOf (now (sheet .entry))) state) (cellOf (cellsOf (now (sheet .entry))) state)) ⌝ }
+    ensures { λ r. ⌜ r ≤ at + 27 ⌝ }
+{
+    if is_terminal(sheet, table, state) {
+        put_word(out, at, b" end")
+    } else {
+        put_field(
+            out,
+            at,
+            b" check ",
+            long(wide(chosen_at(sheet, table, state))),
+        )
+    }
+}
+
+// A stage's line.
+pub fn put_state(sheet: &[u8], table: &[u32], out: &mut [u8], at: usize, state: usize) -> usize
+    requires { ⌜ Within (now sheet) (now table) state ⌝ }
+    requires { ⌜ at + 81 ≤ length (now out) ⌝ }
+    ensures { λ r. ⌜ Wrote (now (out .entry)) (now (out .exit)) at r (stateLine (problemOf (now (sheet .entry))) (cellsOf (now (sheet .entry))) state) ⌝ }
+    ensures { λ r. ⌜ r ≤ at + 81 ⌝ }
+{
+    let next = put_field(out, at, b"stage ", state as u64);
+    let next = put_choice(sheet, table, out, next, state);
+    let next = put_field(out, next, b" value ", long(value_at(sheet, table, state)));
+    put_word(out, next, b"\n")
+}

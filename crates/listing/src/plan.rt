@@ -1,0 +1,112 @@
+// The stages that the plan reaches, one line each, in one ascending pass: a stage's findings are above it.
+ghost use mathlib.Core.Path.{_≡_};
+ghost use mathlib.Core.Bool.{true, false};
+ghost use Prim.Native.Nat.{ℕ, _+_, _*_, _<_, _≤_};
+ghost use lib.ListN.{length, getD, drop, replicate};
+ghost use Rattle.model.specs.Problem.{states};
+ghost use Rattle.model.specs.Read.{problemOf, cellsOf, actionRead, actionFits};
+ghost use Rattle.listing.specs.Listing.{findings, reachedBelow, stateLines, planOf};
+ghost use Rattle.listing.specs.Put.{Wrote, Worked, raised};
+ghost use Rattle.model.specs.declared.Outcome.the-variants.{Settled};
+use super::lines::put_state;
+use model::Outcome;
+use questions::states::action_at;
+use sheet::fields::chosen_at;
+use sheet::fields::is_terminal;
+use sheet::fields::successor;
+use sheet::fields::successor_count;
+use sheet::numbers::get16;
+use sheet::numbers::place;
+use sheet::numbers::wide;
+
+// The flags of the successors of the action at `at` go up.
+pub fn raise(sheet: &[u8], at: usize, flags: &mut [bool])
+    requires { ⌜ actionFits (drop at (now sheet)) ≡ true ⌝ }
+    requires { ⌜ ((j : ℕ) → j < length (actionRead (drop at (now sheet)) .successors) → getD (actionRead (drop at (now sheet)) .successors) j 0 < length (now flags)) ⌝ }
+    ensures { λ _. ⌜ now (flags .exit) ≡ raised (now (flags .entry)) (actionRead (drop at (now (sheet .entry))) .successors) ⌝ }
+{
+    let m = successor_count(sheet, at);
+    let mut j: usize = 0;
+    while j < m {
+        let t = successor(sheet, at, j);
+        flags[t] = true;
+        j += 1;
+    }
+}
+
+// The flags of the findings of a stage's chosen check go up.
+pub fn reach_on(sheet: &[u8], table: &[u32], flags: &mut [bool], state: usize)
+    requires { ⌜ Worked (now sheet) (now table) ⌝ }
+    requires { ⌜ (state < states (problemOf (now sheet))) × (states (problemOf (now sheet)) ≤ length (now flags)) ⌝ }
+    ensures { λ _. ⌜ now (flags .exit) ≡ raised (now (flags .entry)) (findings (problemOf (now (sheet .entry))) (cellsOf (now (sheet .entry))) state) ⌝ }
+{
+    if is_terminal(sheet, table, state) {
+        return;
+    }
+    let chosen = place(wide(chosen_at(sheet, table, state)));
+    let at = action_at(sheet, table, state, chosen);
+    raise(sheet, at, flags);
+}
+
+// The lines of the stages whose flags are up, from the first stage on; at the outset only the start's is.
+pub fn put_states(
+    sheet: &[u8],
+    table: &[u32],
+    flags: &mut [bool],
+    out: &mut [u8],
+    at: usize,
+    n: usize,
+) -> usize
+    requires { ⌜ Worked (now sheet) (now table) ⌝ }
+    requires { ⌜ (n ≡ states (problemOf (now sheet))) × (n ≤ length (now flags)) ⌝ }
+    requires { ⌜ ((t : ℕ) → t < n → getD (now flags) t false ≡ reachedBelow (problemOf (now sheet)) (cellsOf (now sheet)) 0 t) ⌝ }
+    requires { ⌜ at + 81 * n ≤ length (now out) ⌝ }
+    ensures { λ r. ⌜ Wrote (now (out .entry)) (now (out .exit)) at r (stateLines (problemOf (now (sheet .entry))) (cellsOf (now (sheet .entry))) n) ⌝ }
+{
+    let mut next: usize = at;
+    let mut s: usize = 0;
+    while s < n {
+        if flags[s] {
+            next = put_state(sheet, table, out, next, s);
+            reach_on(sheet, table, flags, s);
+        }
+        s += 1;
+    }
+    next
+}
+
+// The lines of all stages that the plan reaches. No flag is up at the outset.
+pub fn put_reached(
+    sheet: &[u8],
+    table: &[u32],
+    flags: &mut [bool],
+    out: &mut [u8],
+    at: usize,
+) -> usize
+    requires { ⌜ Worked (now sheet) (now table) ⌝ }
+    requires { ⌜ now flags ≡ replicate 1024 false ⌝ }
+    requires { ⌜ at + 82944 ≤ length (now out) ⌝ }
+    ensures { λ r. ⌜ Wrote (now (out .entry)) (now (out .exit)) at r (stateLines (problemOf (now (sheet .entry))) (cellsOf (now (sheet .entry))) (states (problemOf (now (sheet .entry))))) ⌝ }
+{
+    let n = place(get16(sheet, 4));
+    let start = place(get16(sheet, 6));
+    flags[start] = true;
+    put_states(sheet, table, flags, out, at, n)
+}
+
+// The lines that follow line one: none but when settled.
+pub fn put_plan(sheet: &[u8], table: &[u32], out: &mut [u8], at: usize, o: Outcome) -> usize
+    requires { ⌜ (o ≡ Settled → Worked (now sheet) (now table)) ⌝ }
+    requires { ⌜ at + 82944 ≤ length (now out) ⌝ }
+    ensures { λ r. ⌜ Wrote (now (out .entry)) (now (out .exit)) at r (planOf o (now (sheet .entry))) ⌝ }
+{
+    match o {
+        Outcome::Settled => {
+            let mut flags = [false; 1024];
+            put_reached(sheet, table, &mut flags, out, at)
+        }
+        Outcome::Refused(_) => at,
+        Outcome::Over => at,
+        Outcome::Stopped => at,
+    }
+}

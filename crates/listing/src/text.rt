@@ -1,0 +1,61 @@
+// Text written into a buffer, one piece behind the other. Each function answers the place behind what it wrote.
+ghost use mathlib.Core.Path.{_≡_};
+ghost use mathlib.Core.List.{[], _∷_};
+ghost use Prim.Native.Nat.{_+_, _<_, _≤_};
+ghost use lib.ListN.{length};
+ghost use Rattle.listing.specs.Text.{lastDigit, decimal};
+ghost use Rattle.listing.specs.Listing.{field};
+ghost use Rattle.listing.specs.Put.{Wrote};
+
+// One byte.
+pub fn put_byte(out: &mut [u8], at: usize, b: u8) -> usize
+    requires { ⌜ at < length (now out) ⌝ }
+    ensures { λ r. ⌜ Wrote (now (out .entry)) (now (out .exit)) at r (b ∷ []) ⌝ }
+{
+    out[at] = b;
+    at + 1
+}
+
+// The bytes of a word.
+pub fn put_word(out: &mut [u8], at: usize, word: &[u8]) -> usize
+    requires { ⌜ at + length (now word) ≤ length (now out) ⌝ }
+    ensures { λ r. ⌜ Wrote (now (out .entry)) (now (out .exit)) at r (now (word .entry)) ⌝ }
+{
+    let mut next: usize = at;
+    let mut i: usize = 0;
+    while i < word.len() {
+        next = put_byte(out, next, word[i]);
+        i += 1;
+    }
+    next
+}
+
+// The last digit of a number.
+pub fn last_digit(x: u64) -> u8
+    ensures { λ r. ⌜ r ≡ lastDigit x ⌝ }
+{
+    (48 + x % 10) as u8
+}
+
+// A number in decimal: the digits before its last one, and that.
+pub fn put_number(out: &mut [u8], at: usize, x: u64) -> usize
+    requires { ⌜ at + length (decimal x) ≤ length (now out) ⌝ }
+    ensures { λ r. ⌜ Wrote (now (out .entry)) (now (out .exit)) at r (decimal x) ⌝ }
+{
+    if x < 10 {
+        put_byte(out, at, last_digit(x))
+    } else {
+        let next = put_number(out, at, x / 10);
+        put_byte(out, next, last_digit(x))
+    }
+}
+
+// A word, and a number behind it.
+pub fn put_field(out: &mut [u8], at: usize, word: &[u8], x: u64) -> usize
+    requires { ⌜ at + length (now word) + 20 ≤ length (now out) ⌝ }
+    ensures { λ r. ⌜ Wrote (now (out .entry)) (now (out .exit)) at r (field (now (word .entry)) x) ⌝ }
+    ensures { λ r. ⌜ r ≤ at + length (now (word .entry)) + 20 ⌝ }
+{
+    let next = put_word(out, at, word);
+    put_number(out, next, x)
+}
