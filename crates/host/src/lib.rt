@@ -1,9 +1,10 @@
 // The one function that a terminal's host program calls.
 ghost use mathlib.Core.Path.{_≡_};
-ghost use mathlib.Core.List.{List, _++_};
-ghost use Prim.Native.Nat.{ℕ, _+_, _*_, _%_, _<_, _≤_};
-ghost use lib.ListN.{length, getD, take, drop};
+ghost use mathlib.Core.List.{_++_};
+ghost use Prim.Native.Nat.{_+_, _*_, _%_, _<_, _≤_};
+ghost use lib.ListN.{length, getD, drop};
 ghost use Rattle.model.specs.Report.{number};
+ghost use Rattle.layout.specs.Placed.{placed};
 ghost use Rattle.host.specs.Host.{le32, le64, entries, entryBytes, lengthened, hostNumber, hostSheet, hostTable, hostResult};
 use ldfs::refusal;
 use ldfs::solve;
@@ -20,7 +21,7 @@ pub fn low(x: u64) -> u8
 // Four bytes of a slice become a number, least significant first.
 pub fn put32(s: &mut [u8], at: usize, x: u64)
     requires { ⌜ (at + 4 ≤ length (now s)) × (x < 4294967296) ⌝ }
-    ensures { λ _. ⌜ now (s .exit) ≡ take at (now (s .entry)) ++ (le32 x ++ drop (at + 4) (now (s .entry))) ⌝ }
+    ensures { λ _. ⌜ now (s .exit) ≡ placed at (le32 x) (now (s .entry)) ⌝ }
 {
     s[at] = low(x);
     s[at + 1] = low(x / 256);
@@ -31,7 +32,7 @@ pub fn put32(s: &mut [u8], at: usize, x: u64)
 // Eight bytes of a slice become a number, least significant first.
 pub fn put64(s: &mut [u8], at: usize, x: u64)
     requires { ⌜ at + 8 ≤ length (now s) ⌝ }
-    ensures { λ _. ⌜ now (s .exit) ≡ take at (now (s .entry)) ++ (le64 x ++ drop (at + 8) (now (s .entry))) ⌝ }
+    ensures { λ _. ⌜ now (s .exit) ≡ placed at (le64 x) (now (s .entry)) ⌝ }
 {
     put32(s, at, x % 4294967296);
     put32(s, at + 4, x / 4294967296);
@@ -40,7 +41,7 @@ pub fn put64(s: &mut [u8], at: usize, x: u64)
 // Price, passes and raises become the first 24 bytes of the result.
 pub fn put_answer(result: &mut [u8], a: Answer)
     requires { ⌜ 24 ≤ length (now result) ⌝ }
-    ensures { λ _. ⌜ now (result .exit) ≡ (le64 (a .price) ++ (le64 (a .passes) ++ le64 (a .raises))) ++ drop 24 (now (result .entry)) ⌝ }
+    ensures { λ _. ⌜ now (result .exit) ≡ placed 0 (le64 (a .price) ++ (le64 (a .passes) ++ le64 (a .raises))) (now (result .entry)) ⌝ }
 {
     put64(result, 0, a.price);
     put64(result, 8, a.passes);

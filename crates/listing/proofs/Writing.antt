@@ -2,48 +2,37 @@
 use Prim.Native.Nat.{ℕ, zero, suc, _+_, _/_, _^_, _<_, _≤_}
 use mathlib.Core.Path.{_≡_, refl, ap, sym, _∙_}
 use mathlib.Core.Bool.{Bool, true, false}
-use mathlib.Core.List.{List, [], _∷_, _++_, append-assoc}
+use mathlib.Core.List.{List, [], _∷_, _++_}
 use native.Mathlib.Omega.{arith}
+use native.Mathlib.Nat.{add-zero}
 use borrow.Author.Tests.{lt-ltb, le-ltb, ltb-false}
 use lib.Dec.{ltb}
 use native.Mathlib.Numerals.{add-one}
-use lib.ListN.{length, getD, take, drop, set, length-append, length-drop, take-append-drop}
-use lib.Seq.{length-take-le, take-all, take-suc, take-at, drop-at, drop-drop, sets-eq}
+use lib.ListN.{length, getD, take, set, length-append}
+use lib.Seq.{length-take-le, take-all, take-suc}
+use Rattle.layout.specs.Placed.{placed}
+use Rattle.layout.proofs.Placed.{placed-none, placed-byte, placed-length, placed-then}
 use Rattle.listing.specs.Text.{lastDigit, digits, decimal}
 use Rattle.listing.specs.Put.{Wrote}
 
 -- nothing, and one byte
 pub wrote-none : (s : List ℕ) (at : ℕ) → at ≤ length s → Wrote s s at at []
-wrote-none s at h = let z : at + 0 ≡ at = omega arith in record { room = omega arith; bytes = rw z (sym (take-append-drop at s)); behind = sym z }
+wrote-none s at h = record { room = omega arith; bytes = placed-none s at; behind = sym (add-zero at) }
 
 pub wrote-byte : (s : List ℕ) (at b : ℕ) → at < length s → Wrote s (set s at b) at (at + 1) (b ∷ [])
-wrote-byte s at b h = record { room = omega arith; bytes = sets-eq (b ∷ []) s at (omega arith) ∙ append-assoc (take at s) (b ∷ []) (drop (at + 1) s); behind = refl }
+wrote-byte s at b h = record { room = omega arith; bytes = placed-byte s at b h; behind = refl }
 
 -- a text keeps the buffer's length, and one can be written behind another
 module _ {s s′ : List ℕ} {at next : ℕ} {x : List ℕ} (w : Wrote s s′ at next x) where
-  parts : s′ ≡ (take at s ++ x) ++ drop (at + length x) s
-  parts = w .bytes ∙ sym (append-assoc (take at s) x (drop (at + length x) s))
-
-  head : length (take at s ++ x) ≡ at + length x
-  head = rw (length-append, length-take-le at s (omega (arith, w .room)))
-
   pub wrote-length : length s′ ≡ length s
-  wrote-length = rw (parts, length-append, head, length-drop) (omega (arith, w .room))
+  wrote-length = ap length (w .bytes) ∙ placed-length s at x (w .room)
 
   pub wrote-behind : {s″ : List ℕ} {end : ℕ} {y : List ℕ} → Wrote s′ s″ next end y → Wrote s s″ at end (x ++ y)
   wrote-behind {s″} {end} {y} v = record {
     room = rw length-append (omega (arith, v .room, w .behind, wrote-length));
-    bytes = v .bytes ∙ rw (w .behind, before, after, length-append) (simp append-assoc);
+    bytes = placed-then s s′ s″ x y at (w .room) (w .bytes) (v .bytes ∙ ap (λ (n : ℕ). placed n y s′) (w .behind));
     behind = rw length-append (omega (arith, v .behind, w .behind));
   }
-    where
-      before : take (at + length x) s′ ≡ take at s ++ x
-      before = rw parts (take-at (take at s ++ x) (drop (at + length x) s) (at + length x) head)
-
-      after : drop (at + length x + length y) s′ ≡ drop (at + (length x + length y)) s
-      after =
-          sym (drop-drop (length y) (at + length x) s′) ∙ ap (drop (length y)) (rw parts (drop-at (take at s ++ x) (drop (at + length x) s) (at + length x) head))
-          ∙ drop-drop (length y) (at + length x) s ∙ (let z : at + length x + length y ≡ at + (length x + length y) = omega arith in rw z)
 
 -- Digits: more room for them changes nothing, and so a number's are those of its tenth and its last.
 digits-same : (k l x : ℕ) → x < k → x < l → digits k x ≡ digits l x

@@ -78,8 +78,8 @@ planOf Stopped s = []
 unfoldable pub listing : List ℕ → ℕ → List ℕ
 listing s entries = lineOne (answerTo s entries largest) ++ planOf (answerTo s entries largest .outcome) (bytesAfter s entries largest)
 
--- Every listing has fewer than so many bytes. A shorter buffer is too short, whatever the sheet: it gets that answer, and sheet, table and buffer
--- are left as they are.
+-- No listing has more bytes than this. A shorter buffer is too short, whatever the sheet: it gets that answer, and sheet, table and buffer are left as
+-- they are.
 abbrev pub enough : ℕ
 enough = 84000
 

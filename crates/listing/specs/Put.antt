@@ -2,16 +2,17 @@
 use Prim.Native.Nat.{ℕ, _+_, _≤_}
 use mathlib.Core.Path.{_≡_}
 use mathlib.Core.Bool.{Bool, true}
-use mathlib.Core.List.{List, [], _∷_, _++_}
-use lib.ListN.{length, take, drop, set}
+use mathlib.Core.List.{List, [], _∷_}
+use lib.ListN.{length, set}
 use Rattle.model.specs.Read.{problemOf, cellsOf}
+use Rattle.layout.specs.Placed.{placed}
 use Rattle.sheet.specs.Sheet.{Sheet}
 use Rattle.theory.specs.Consistent.{WellFormed, Consistent}
 
 -- a text was written into a buffer at a place, and the rest of the buffer kept
 pub record Wrote (before after : List ℕ) (at next : ℕ) (text : List ℕ) : Type 0 where
   pub room : at + length text ≤ length before
-  pub bytes : after ≡ take at before ++ (text ++ drop (at + length text) before)
+  pub bytes : after ≡ placed at text before
   pub behind : next ≡ at + length text
 
 -- a sheet that has been worked

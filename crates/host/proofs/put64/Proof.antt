@@ -1,8 +1,8 @@
 use Prim.Native.Nat.{_/_, _%_}
-use mathlib.Core.Path.{refl}
+use native.Mathlib.Omega.{arith}
 use borrow.Author.Needs.{needs}
 use Rattle.host.specs.Host.{le32}
-use Rattle.host.proofs.Bytes.{put-behind}
+use Rattle.layout.proofs.Placed.{placed-then}
 use Rattle.host.proofs.put64.Statement.{statement}
 use Rattle.host.proofs.put64.Tie as tie
 
@@ -20,7 +20,7 @@ same-length c = search needs
 
 returns : tie.Need-returns
 returns c =
-    let a = c .before .before .before .before .before .before .before .before .before .args in put-behind (a .s .now) _ _ (le32 (a .x % 4294967296)) (le32 (a .x / 4294967296)) (a .at) 4 4 (c .before .before .before .before .before .before .before .before .before .pre) refl (c .before .before .before .before .before .before .put32 .ensures) (c .before .before .put322 .ensures)
+    let a = c .before .before .before .before .before .before .before .before .before .args in placed-then (a .s .now) _ _ (le32 (a .x % 4294967296)) (le32 (a .x / 4294967296)) (a .at) (omega (arith, c .before .before .before .before .before .before .before .before .before .pre)) (c .before .before .before .before .before .before .put32 .ensures) (c .before .before .put322 .ensures)
 
 pub put64-spec : {M : Type 1} → statement M
 put64-spec = tie.close (tie.spec put32-requires add-put32 put32-requires-2 same-length returns)
