@@ -1,12 +1,17 @@
 // A case's line: its label, and what happened.
+use super::bytes::copy;
+use super::bytes::differ;
 use ldfs::solve;
 use model::Answer;
 use model::Outcome;
 use questions::Verdict;
 use questions::check;
 
+// The largest budget.
+pub const LARGEST: u64 = 18446744073709551615;
+
 // A number of 32 bits as one of 64.
-pub fn long(x: u32) -> u64 {
+fn long(x: u32) -> u64 {
     x as u64
 }
 
@@ -17,26 +22,14 @@ pub fn word(text: &[u8]) {
 
 // A space, and a number in decimal.
 pub fn number(x: u64) {
-    io::write_all(1, b" ");
+    word(b" ");
     io::print_decimal(1, x);
 }
 
-// The end of a line.
-pub fn end_line() {
-    io::write_all(1, b"\n");
-}
-
-// What `check` answered.
-fn verdict(v: Verdict) {
-    match v {
-        Verdict::Accepted => {
-            word(b" accepted");
-        }
-        Verdict::Refused(n) => {
-            word(b" refused");
-            number(long(n));
-        }
-    }
+// A refusal's number.
+fn refused(n: u32) {
+    word(b" refused");
+    number(long(n));
 }
 
 // An outcome's word, then price, passes and raises.
@@ -47,13 +40,15 @@ fn figures(outcome: &[u8], price: u64, passes: u64, raises: u64) {
     number(raises);
 }
 
-// What `solve` answered.
-fn answer(a: Answer) {
+// What `solve` answered, and whether a call that refused has changed a byte of the sheet.
+fn answer(a: Answer, before: &[u8], after: &[u8]) {
     let outcome = a.outcome;
     match outcome {
         Outcome::Refused(n) => {
-            word(b" refused");
-            number(long(n));
+            refused(n);
+            if differ(before, after) {
+                word(b" changed");
+            }
         }
         Outcome::Settled => {
             figures(b" settled", a.price, a.passes, a.raises);
@@ -70,34 +65,48 @@ fn answer(a: Answer) {
 // Puts the questions to the first `n` bytes, and prints the verdict.
 pub fn asked(sheet: &[u8], n: usize, table: &mut [u32]) {
     if n <= sheet.len() {
-        let v = check(&sheet[..n], table);
-        verdict(v);
+        match check(&sheet[..n], table) {
+            Verdict::Accepted => {
+                word(b" accepted");
+            }
+            Verdict::Refused(n) => {
+                refused(n);
+            }
+        }
     }
 }
 
 // Works the first `n` bytes, and prints the answer.
 pub fn worked(sheet: &mut [u8], n: usize, table: &mut [u32], budget: u64) {
+    let mut before = [0u8; 60001];
+    copy(&mut before, 0, sheet);
     if n <= sheet.len() {
         let a = solve(&mut sheet[..n], table, budget);
-        answer(a);
+        answer(a, &before, sheet);
+    }
+}
+
+// Prints the table's entries from `from` to just below `end`.
+pub fn show(table: &[u32], from: usize, end: usize) {
+    let mut i = from;
+    while i < end {
+        if i < table.len() {
+            number(long(table[i]));
+        }
+        i += 1;
     }
 }
 
 // A line of `check`.
-pub fn ask(label: &[u8], sheet: &[u8], n: usize, table: &mut [u32]) {
+pub fn ask_line(label: &[u8], sheet: &[u8], n: usize, table: &mut [u32]) {
     word(label);
     asked(sheet, n, table);
-    end_line();
+    word(b"\n");
 }
 
-// A line of `solve` with this budget.
-pub fn work_within(label: &[u8], sheet: &mut [u8], n: usize, table: &mut [u32], budget: u64) {
+// A line of `solve`.
+pub fn work_line(label: &[u8], sheet: &mut [u8], n: usize, table: &mut [u32], budget: u64) {
     word(label);
     worked(sheet, n, table, budget);
-    end_line();
-}
-
-// A line of `solve` with the largest budget.
-pub fn work(label: &[u8], sheet: &mut [u8], n: usize, table: &mut [u32]) {
-    work_within(label, sheet, n, table, 18446744073709551615);
+    word(b"\n");
 }

@@ -1,98 +1,78 @@
-// The sheets that the cases are made of, written from the buffer's beginning. Each function answers the sheet's number of bytes.
-ghost use Prim.Native.Nat.{_≤_};
-use super::fields::action;
-use super::fields::action_to_one;
-use super::fields::action_to_two;
-use super::fields::actions;
-use super::fields::decision;
-use super::fields::head;
-use super::fields::successors;
-use super::fields::terminal;
-use super::fields::terminals;
+// The sheets of the cases, and blocks of fields that larger ones are built of: a line for each field, or for a long check one more for its findings.
 
-// One ending: 20 bytes.
-pub fn single(sheet: &mut [u8], cost: u32, value: u32, mark: u8) -> usize {
-    let at = head(sheet, 0, 1, 0);
-    terminal(sheet, at, cost, value, mark)
-}
+// Document 01's A. Head: worst, 4 stages, start 0; junction 0; check 200, findings 1, 3; check 500, finding 3; junction 1; check 400, findings 2, 3;
+// endings 100 and 0. The offsets are 8, 37, 57, 69. Junction 0's chosen check is at 16, and the first finding of junction 1 at 53.
+pub const A: [u8; 81] = *b"\
+    \x01\x00\x05\x00\x00\x04\x00\x00\
+    \x03\x00\x06\x00\x00\x00\x00\x00\x00\
+    \x04\x00\x08\x00\x00\x00\xc8\x00\x01\x00\x03\
+    \x04\x00\x06\x00\x00\x01\xf4\x00\x03\
+    \x03\x00\x06\x00\x00\x00\x00\x00\x00\
+    \x04\x00\x08\x00\x00\x01\x90\x00\x02\x00\x03\
+    \x02\x00\x09\x00\x00\x00\x64\x00\x00\x00\x00\x00\
+    \x02\x00\x09\x00\x00\x00\x00\x00\x00\x00\x00\x00";
 
-// Sheet A of document 01: 81 bytes, offsets 8, 37, 57, 69.
-pub fn sheet_a(sheet: &mut [u8]) -> usize {
-    let at = head(sheet, 0, 4, 0);
-    let at = decision(sheet, at, 0);
-    let at = action_to_two(sheet, at, 200, 1, 3);
-    let at = action_to_one(sheet, at, 500, 3);
-    let at = decision(sheet, at, 0);
-    let at = action_to_two(sheet, at, 400, 2, 3);
-    let at = terminal(sheet, at, 100, 0, 0);
-    terminal(sheet, at, 0, 0, 0)
-}
+// Document 01's B. Head: worst, 3 stages, start 0; junction; check 100, findings 1, 2; endings 30 and 50. The offsets are 8, 28, 40. The head's kind is
+// at 3, its stages at 4 and its start at 6; the junction's value at 11, its mark at 15 and its chosen check at 16; the check's cost at 20 and its findings
+// at 24; the endings' marks at 39 and 51.
+pub const B: [u8; 52] = *b"\
+    \x01\x00\x05\x00\x00\x03\x00\x00\
+    \x03\x00\x06\x00\x00\x00\x00\x00\x00\
+    \x04\x00\x08\x00\x00\x00\x64\x00\x01\x00\x02\
+    \x02\x00\x09\x00\x00\x00\x1e\x00\x00\x00\x00\x00\
+    \x02\x00\x09\x00\x00\x00\x32\x00\x00\x00\x00\x00";
 
-// Sheet B of document 01: 52 bytes, offsets 8, 28, 40. The junction's value is at 11, its mark at 15 and its chosen check at 16; the check's cost
-// is at 20 and its findings at 24 and 26; the endings' values are at 35 and 47 and their marks at 39 and 51.
-pub fn sheet_b(sheet: &mut [u8], kind: u8) -> usize {
-    let at = head(sheet, kind, 3, 0);
-    let at = decision(sheet, at, 0);
-    let at = action_to_two(sheet, at, 100, 1, 2);
-    let at = terminal(sheet, at, 30, 0, 0);
-    terminal(sheet, at, 50, 0, 0)
-}
+// B with every stage settled at its least cost: 150, 30 and 50.
+pub const SETTLED_B: [u8; 52] = *b"\
+    \x01\x00\x05\x00\x00\x03\x00\x00\
+    \x03\x00\x06\x00\x00\x00\x96\x01\x00\
+    \x04\x00\x08\x00\x00\x00\x64\x00\x01\x00\x02\
+    \x02\x00\x09\x00\x00\x00\x1e\x00\x00\x00\x1e\x01\
+    \x02\x00\x09\x00\x00\x00\x32\x00\x00\x00\x32\x01";
 
-// The chain of 999 junctions of cost 1,000,000, all values least costs, with an ending of this cost: 8 + 999 * 18 + 12 = 18,002 bytes.
-pub fn chain(sheet: &mut [u8], cost: u32) -> usize
-    requires { ⌜ cost ≤ 1000000 ⌝ }
-{
-    let mut at = head(sheet, 0, 1000, 0);
-    let mut i: u32 = 0;
-    while i < 999 {
-        at = decision(sheet, at, (999 - i) * 1000000 + cost);
-        at = action_to_one(sheet, at, 1000000, i + 1);
-        i += 1;
-    }
-    terminal(sheet, at, cost, cost, 0)
-}
+// One ending of cost 0. Its cost is at 11, its value at 15 and its mark at 19.
+pub const ONE: [u8; 20] = *b"\
+    \x01\x00\x05\x00\x00\x01\x00\x00\
+    \x02\x00\x09\x00\x00\x00\x00\x00\x00\x00\x00\x00";
 
-// A junction of so many checks, and one ending.
-pub fn many_actions(sheet: &mut [u8], count: u32) -> usize {
-    let at = head(sheet, 0, 2, 0);
-    let at = decision(sheet, at, 0);
-    let at = actions(sheet, at, count);
-    terminal(sheet, at, 0, 0, 0)
-}
+// A junction without checks, and an ending.
+pub const CHECKS_0: [u8; 29] = *b"\
+    \x01\x00\x05\x00\x00\x02\x00\x00\
+    \x03\x00\x06\x00\x00\x00\x00\x00\x00\
+    \x02\x00\x09\x00\x00\x00\x00\x00\x00\x00\x00\x00";
 
-// A junction of one check whose findings are all the other states, which are endings.
-pub fn many_successors(sheet: &mut [u8], count: u32) -> usize
-    requires { ⌜ count ≤ 1000 ⌝ }
-{
-    let at = head(sheet, 0, count + 1, 0);
-    let at = decision(sheet, at, 0);
-    let at = action(sheet, at, count * 2 + 4, 1);
-    let at = successors(sheet, at, 1, count + 1);
-    terminals(sheet, at, count)
-}
+// A junction of one check without findings.
+pub const FINDINGS_0: [u8; 24] = *b"\
+    \x01\x00\x05\x00\x00\x01\x00\x00\
+    \x03\x00\x06\x00\x00\x00\x00\x00\x00\
+    \x04\x00\x04\x00\x00\x00\x01";
 
-// Endings only: 8 + 12 * states bytes.
-pub fn only_terminals(sheet: &mut [u8], states: u32) -> usize {
-    let at = head(sheet, 0, states, 0);
-    terminals(sheet, at, states)
-}
+// Block: an ending of cost 0.
+pub const ENDING: [u8; 12] = *b"\
+    \x02\x00\x09\x00\x00\x00\x00\x00\x00\x00\x00\x00";
 
-// A junction of two checks, each with fifteen findings, the states 716 to 730: 9 + 2 * 37 = 83 bytes.
-fn fan(sheet: &mut [u8], at: usize) -> usize {
-    let at = decision(sheet, at, 0);
-    let at = action(sheet, at, 34, 1);
-    let at = successors(sheet, at, 716, 731);
-    let at = action(sheet, at, 34, 1);
-    successors(sheet, at, 716, 731)
-}
+// Block: a junction.
+pub const JUNCTION: [u8; 9] = *b"\
+    \x03\x00\x06\x00\x00\x00\x00\x00\x00";
 
-// 716 such junctions and 47 endings, 763 states: 8 + 716 * 83 + 47 * 12 = 60,000 bytes.
-pub fn full(sheet: &mut [u8]) -> usize {
-    let mut at = head(sheet, 0, 763, 0);
-    let mut i: u32 = 0;
-    while i < 716 {
-        at = fan(sheet, at);
-        i += 1;
-    }
-    terminals(sheet, at, 47)
-}
+// Block: a check of cost 1 whose one finding is stage 1.
+pub const CHECK: [u8; 9] = *b"\
+    \x04\x00\x06\x00\x00\x00\x01\x00\x01";
+
+// Block: a check of cost 1 with the findings 1 to 16.
+pub const FINDINGS_16: [u8; 39] = *b"\
+    \x04\x00\x24\x00\x00\x00\x01\
+    \x00\x01\x00\x02\x00\x03\x00\x04\x00\x05\x00\x06\x00\x07\x00\x08\x00\x09\x00\x0a\x00\x0b\x00\x0c\x00\x0d\x00\x0e\x00\x0f\x00\x10";
+
+// Block: a check of cost 1 with the findings 1 to 17.
+pub const FINDINGS_17: [u8; 41] = *b"\
+    \x04\x00\x26\x00\x00\x00\x01\
+    \x00\x01\x00\x02\x00\x03\x00\x04\x00\x05\x00\x06\x00\x07\x00\x08\x00\x09\x00\x0a\x00\x0b\x00\x0c\x00\x0d\x00\x0e\x00\x0f\x00\x10\x00\x11";
+
+// Block: a junction of two checks of cost 1, each with fifteen findings, the stages 716 to 730: 9 + 2 * 37 = 83 bytes.
+pub const FAN: [u8; 83] = *b"\
+    \x03\x00\x06\x00\x00\x00\x00\x00\x00\
+    \x04\x00\x22\x00\x00\x00\x01\
+    \x02\xcc\x02\xcd\x02\xce\x02\xcf\x02\xd0\x02\xd1\x02\xd2\x02\xd3\x02\xd4\x02\xd5\x02\xd6\x02\xd7\x02\xd8\x02\xd9\x02\xda\
+    \x04\x00\x22\x00\x00\x00\x01\
+    \x02\xcc\x02\xcd\x02\xce\x02\xcf\x02\xd0\x02\xd1\x02\xd2\x02\xd3\x02\xd4\x02\xd5\x02\xd6\x02\xd7\x02\xd8\x02\xd9\x02\xda";

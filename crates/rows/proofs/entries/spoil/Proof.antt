@@ -8,16 +8,16 @@ use Rattle.rows.proofs.entries.spoil.Statement.{statement}
 use Rattle.rows.proofs.entries.spoil.Tie as tie
 
 abbrev Inv-loop : tie.InvT-loop
-Inv-loop table₀ g₀ i₀ table g i = (i ≤ length table) × (length table ≡ length table₀)
+Inv-loop label table₀ i₀ t4 table i = (i ≤ length table) × (length table ≡ length table₀)
 
 abbrev μ-loop : tie.MeasureT-loop
-μ-loop table₀ g₀ i₀ table g i = length table₀ - i
+μ-loop label table₀ i₀ t4 table i = length table₀ - i
 
 loop-holds : tie.Need-loop-holds Inv-loop μ-loop
 loop-holds c = search needs
 
-next-requires : tie.Need-next-requires Inv-loop μ-loop
-next-requires c κs = search needs
+garbage-requires : tie.Need-garbage-requires Inv-loop μ-loop
+garbage-requires c κs = search needs
 
 mul-table : tie.Need-mul-table Inv-loop μ-loop
 mul-table c = search needs
@@ -34,6 +34,18 @@ loop-less c = search needs
 loop-again : tie.Need-loop-again Inv-loop μ-loop
 loop-again c = (simp length-set (omega arith), simp length-set (omega arith))
 
+word-requires : tie.Need-word-requires Inv-loop μ-loop
+word-requires c κs = search needs
+
+slice-aggregate-word : tie.Need-slice-aggregate-word Inv-loop μ-loop
+slice-aggregate-word c = search needs
+
+word-requires-2 : tie.Need-word-requires-2 Inv-loop μ-loop
+word-requires-2 c κs = search needs
+
+number-requires : tie.Need-number-requires Inv-loop μ-loop
+number-requires c κs = search needs
+
 same-length : tie.Need-same-length Inv-loop μ-loop
 same-length c = search needs
 
@@ -47,11 +59,15 @@ spoil-spec =
     Inv-loop
     μ-loop
     loop-holds
-    next-requires
+    garbage-requires
     mul-table
     slice-write-table
     add-i
     loop-less
     loop-again
+    word-requires
+    slice-aggregate-word
+    word-requires-2
+    number-requires
     same-length
     returns)

@@ -12,8 +12,20 @@ slice-aggregate-check c = sym (length-take-le _ _ (omega arith))
 check-requires : tie.Need-check-requires
 check-requires c κs = search needs
 
-verdict-requires : tie.Need-verdict-requires
-verdict-requires c κs = search needs
+enum-told : tie.Need-enum-told
+enum-told c = search needs
+
+slice-aggregate-word : tie.Need-slice-aggregate-word
+slice-aggregate-word c = search needs
+
+word-requires : tie.Need-word-requires
+word-requires c κs = search needs
+
+enum-known-n : tie.Need-enum-known-n
+enum-known-n c = search needs
+
+refused-requires : tie.Need-refused-requires
+refused-requires c κs = search needs
 
 same-length : tie.Need-same-length
 same-length c = search needs
@@ -21,10 +33,28 @@ same-length c = search needs
 returns : tie.Need-returns
 returns c = search needs
 
+same-length-2 : tie.Need-same-length-2
+same-length-2 c = search needs
+
 returns-2 : tie.Need-returns-2
 returns-2 c = search needs
+
+returns-3 : tie.Need-returns-3
+returns-3 c = search needs
 
 pub asked-spec : {M : Type 1} → statement M
 asked-spec =
     tie.close
-    (tie.spec slice-aggregate-check check-requires verdict-requires same-length returns returns-2)
+    (tie.spec
+    slice-aggregate-check
+    check-requires
+    enum-told
+    slice-aggregate-word
+    word-requires
+    enum-known-n
+    refused-requires
+    same-length
+    returns
+    same-length-2
+    returns-2
+    returns-3)

@@ -6,6 +6,12 @@ use borrow.Author.Needs.{needs}
 use Rattle.rows.proofs.lines.worked.Statement.{statement}
 use Rattle.rows.proofs.lines.worked.Tie as tie
 
+slice-aggregate-copy : tie.Need-slice-aggregate-copy
+slice-aggregate-copy c = search needs
+
+copy-requires : tie.Need-copy-requires
+copy-requires c κs = search needs
+
 slice-relend-prefix-solve : tie.Need-slice-relend-prefix-solve
 slice-relend-prefix-solve c = search needs
 
@@ -14,6 +20,9 @@ slice-aggregate-solve c = sym (length-take-le _ _ (omega arith))
 
 solve-requires : tie.Need-solve-requires
 solve-requires c κs = search needs
+
+slice-aggregate-answer : tie.Need-slice-aggregate-answer
+slice-aggregate-answer c = search needs
 
 answer-requires : tie.Need-answer-requires
 answer-requires c κs = search needs
@@ -27,6 +36,9 @@ same-length-2 c = search needs
 returns : tie.Need-returns
 returns c = search needs
 
+same-length-3 : tie.Need-same-length-3
+same-length-3 c = search needs
+
 returns-2 : tie.Need-returns-2
 returns-2 c = search needs
 
@@ -34,11 +46,15 @@ pub worked-spec : {M : Type 1} → statement M
 worked-spec =
     tie.close
     (tie.spec
+    slice-aggregate-copy
+    copy-requires
     slice-relend-prefix-solve
     slice-aggregate-solve
     solve-requires
+    slice-aggregate-answer
     answer-requires
     same-length
     same-length-2
     returns
+    same-length-3
     returns-2)

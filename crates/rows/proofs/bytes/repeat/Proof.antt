@@ -1,22 +1,22 @@
--- `rows::fields::terminals` is safe and ends. The invariant keeps the slice's length, and the measure is what is left to do.
+-- `rows::bytes::repeat` is safe and ends. The invariant keeps the slice's length, and the measure is what is left to do.
 use mathlib.Core.Path.{_≡_}
 use Prim.Native.Nat.{_-_}
 use lib.ListN.{length}
 use borrow.Author.Needs.{needs}
-use Rattle.rows.proofs.fields.terminals.Statement.{statement}
-use Rattle.rows.proofs.fields.terminals.Tie as tie
+use Rattle.rows.proofs.bytes.repeat.Statement.{statement}
+use Rattle.rows.proofs.bytes.repeat.Tie as tie
 
 abbrev Inv-loop : tie.InvT-loop
-Inv-loop sheet₀ at count next₀ i₀ sheet next i = length sheet ≡ length sheet₀
+Inv-loop sheet₀ at block times next₀ i₀ sheet next i = length sheet ≡ length sheet₀
 
 abbrev μ-loop : tie.MeasureT-loop
-μ-loop sheet₀ at count next₀ i₀ sheet next i = count - i
+μ-loop sheet₀ at block times next₀ i₀ sheet next i = times - i
 
 loop-holds : tie.Need-loop-holds Inv-loop μ-loop
 loop-holds c = search needs
 
-terminal-requires : tie.Need-terminal-requires Inv-loop μ-loop
-terminal-requires c κs = search needs
+copy-requires : tie.Need-copy-requires Inv-loop μ-loop
+copy-requires c κs = search needs
 
 add-i : tie.Need-add-i Inv-loop μ-loop
 add-i c = search needs
@@ -33,14 +33,14 @@ same-length c = search needs
 returns : tie.Need-returns Inv-loop μ-loop
 returns c = search needs
 
-pub terminals-spec : {M : Type 1} → statement M
-terminals-spec =
+pub repeat-spec : {M : Type 1} → statement M
+repeat-spec =
     tie.close
     (tie.spec
     Inv-loop
     μ-loop
     loop-holds
-    terminal-requires
+    copy-requires
     add-i
     loop-less
     loop-again

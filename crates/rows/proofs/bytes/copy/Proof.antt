@@ -1,22 +1,25 @@
--- `rows::fields::actions` is safe and ends. The invariant keeps the slice's length, and the measure is what is left to do.
+-- `rows::bytes::copy` is safe and ends. The invariant keeps the slice's length, and the measure is what is left to do.
 use mathlib.Core.Path.{_≡_}
 use Prim.Native.Nat.{_-_}
 use lib.ListN.{length}
 use borrow.Author.Needs.{needs}
-use Rattle.rows.proofs.fields.actions.Statement.{statement}
-use Rattle.rows.proofs.fields.actions.Tie as tie
+use Rattle.rows.proofs.bytes.copy.Statement.{statement}
+use Rattle.rows.proofs.bytes.copy.Tie as tie
 
 abbrev Inv-loop : tie.InvT-loop
-Inv-loop sheet₀ at count next₀ i₀ sheet next i = length sheet ≡ length sheet₀
+Inv-loop sheet₀ at block next₀ i₀ sheet next i = length sheet ≡ length sheet₀
 
 abbrev μ-loop : tie.MeasureT-loop
-μ-loop sheet₀ at count next₀ i₀ sheet next i = count - i
+μ-loop sheet₀ at block next₀ i₀ sheet next i = length block - i
 
 loop-holds : tie.Need-loop-holds Inv-loop μ-loop
 loop-holds c = search needs
 
-action-to-one-requires : tie.Need-action-to-one-requires Inv-loop μ-loop
-action-to-one-requires c κs = search needs
+shared-slice-read-put : tie.Need-shared-slice-read-put Inv-loop μ-loop
+shared-slice-read-put c = search needs
+
+put-requires : tie.Need-put-requires Inv-loop μ-loop
+put-requires c κs = search needs
 
 add-i : tie.Need-add-i Inv-loop μ-loop
 add-i c = search needs
@@ -33,14 +36,15 @@ same-length c = search needs
 returns : tie.Need-returns Inv-loop μ-loop
 returns c = search needs
 
-pub actions-spec : {M : Type 1} → statement M
-actions-spec =
+pub copy-spec : {M : Type 1} → statement M
+copy-spec =
     tie.close
     (tie.spec
     Inv-loop
     μ-loop
     loop-holds
-    action-to-one-requires
+    shared-slice-read-put
+    put-requires
     add-i
     loop-less
     loop-again
