@@ -6,30 +6,19 @@
 mod plain;
 mod sheets;
 
+use library::through;
 use sheets::Sample;
 use std::thread;
 use std::time::{Duration, Instant};
 
 type Solve = fn(&mut [u8], &mut [u8], u64, &mut [u8]) -> u32;
-type Raw = unsafe extern "C" fn(*mut u8, usize, *mut u8, usize, u64, *mut u8, usize) -> u32;
 
 extern "C" {
-    fn ldfs_solve(s: *mut u8, sl: usize, t: *mut u8, tl: usize, budget: u64, r: *mut u8, rl: usize) -> u32;
     fn plain_solve(s: *mut u8, sl: usize, t: *mut u8, tl: usize, budget: u64, r: *mut u8, rl: usize) -> u32;
 }
 
-/// A C function on slices. Each pointer is handed over with its length, and no two slices overlap.
-fn through(raw: Raw, sheet: &mut [u8], table: &mut [u8], budget: u64, result: &mut [u8]) -> u32 {
-    let (sheet_length, table_length, result_length) = (sheet.len(), table.len(), result.len());
-    let (sheet, table, result) = (sheet.as_mut_ptr(), table.as_mut_ptr(), result.as_mut_ptr());
-    unsafe { raw(sheet, sheet_length, table, table_length, budget, result, result_length) }
-}
-
-const SOLVERS: [(&str, Solve); 3] = [
-    ("library", |s, t, b, r| through(ldfs_solve, s, t, b, r)),
-    ("plain Rust", plain::solve),
-    ("plain C", |s, t, b, r| through(plain_solve, s, t, b, r)),
-];
+const SOLVERS: [(&str, Solve); 3] =
+    [("library", library::solve), ("plain Rust", plain::solve), ("plain C", |s, t, b, r| through(plain_solve, s, t, b, r))];
 
 const ROUNDS: usize = 15;
 const ROUND_TIME: Duration = Duration::from_millis(20);

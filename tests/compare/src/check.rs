@@ -2,7 +2,7 @@
 
 use crate::calls::Call;
 use crate::coverage::Coverage;
-use crate::library::{self, Lent};
+use crate::lent::Lent;
 use sweep::{Node, Sheet, CEILING};
 
 /// Makes the calls one after another, each on the bytes that the last one left, and compares everything that each of them leaves.

@@ -11,7 +11,7 @@ mod check;
 mod coverage;
 mod damage;
 mod draft;
-mod library;
+mod lent;
 mod price;
 mod rng;
 mod rows;

@@ -2,7 +2,7 @@
 
 use crate::coverage::Coverage;
 use crate::draft::{Action, Draft, Node};
-use crate::{library, price};
+use crate::price;
 
 const LARGEST: u64 = u64::MAX;
 
