@@ -11,7 +11,7 @@ use Rattle.model.specs.Tests.{all-true}
 use Rattle.model.specs.Problem.{states}
 use Rattle.model.specs.Format.{offsetsFrom}
 use Rattle.model.specs.Read.{problemOf}
-use Rattle.model.specs.Questions.{question1, question3, question9, sheetQuestions, firstNo, refusal, none-no}
+use Rattle.model.specs.Questions.{maxStates, question1, question3, question9, sheetQuestions, firstNo, refusal, none-no}
 use Rattle.model.specs.Report.{number, refused, onRefusal, answerTo, bytesAfter, indexTable, refusedTable, tableAfter}
 use Rattle.ldfs.specs.Made.{Solved}
 use Rattle.layout.proofs.Index.{states-read, offsets-count}
@@ -38,7 +38,7 @@ filled-index ps m n few le =
 filled-zeros : (m n : ℕ) → m ≤ n → replicate n 0 ≡ lengthened (replicate m 0) n
 filled-zeros m n le = let z : m + (n - m) ≡ n = omega arith in sym (filled (replicate m 0) n (rw length-replicate le) ∙ rw (length-replicate, replicate-append-replicate, z))
 
-few-stages : (s : List ℕ) → question3 s ≡ true → states (problemOf s) ≤ 1024
+few-stages : (s : List ℕ) → question3 s ≡ true → states (problemOf s) ≤ maxStates
 unfolding question3
 few-stages s h = omega (arith, states-read s, leb-true, all-true _ h)
 
@@ -50,14 +50,14 @@ cleared n (suc zero) = refl
 cleared n (suc (suc k)) = rw length-replicate
 
 module _ (s : List ℕ) (budget : ℕ) where
-  refused-short : (n : ℕ) → n < 1024 → refusal s n budget ≡ 1
+  refused-short : (n : ℕ) → n < maxStates → refusal s n budget ≡ 1
   unfolding refusal firstNo question1
-  refused-short n h = rw (lt-leb 1024 n h)
+  refused-short n h = rw (lt-leb maxStates n h)
 
-  module _ (m n : ℕ) (enough : 1024 ≤ m) (le : m ≤ n) where
+  module _ (m n : ℕ) (enough : maxStates ≤ m) (le : m ≤ n) where
     same-refusal : refusal s n budget ≡ refusal s m budget
     unfolding refusal firstNo question1
-    same-refusal = rw (le-leb 1024 n (omega arith), le-leb 1024 m enough)
+    same-refusal = rw (le-leb maxStates n (omega arith), le-leb maxStates m enough)
 
     same-answer : answerTo s m budget ≡ answerTo s n budget
     unfolding answerTo
@@ -98,13 +98,13 @@ module _ (s t : List ℕ) (budget : ℕ) (r : List ℕ) where
     pub short-table : length t < 4096 → a ≡ refused 1 → Hosted s t budget r 1 s t r′
     unfolding hostNumber hostSheet hostTable hostResult answerTo bytesAfter onRefusal
     short-table h e =
-        let few : entries t < 1024 = omega arith in let no : refusal s (entries t) budget ≡ 1 = refused-short s budget (entries t) few in
-        rw (le-leb 24 (length r) room, no, lt-leb 1024 (entries t) few) (refl, (refl, (refl, told ∙ rw e)))
+        let few : entries t < maxStates = omega arith in let no : refusal s (entries t) budget ≡ 1 = refused-short s budget (entries t) few in
+        rw (le-leb 24 (length r) room, no, lt-leb maxStates (entries t) few) (refl, (refl, (refl, told ∙ rw e)))
 
-    pub long-table : (m : ℕ) → 1024 ≤ m → m ≤ entries t → (s′ w t′ : List ℕ) (k : ℕ) → Solved s (replicate m 0) budget a s′ w → t′ ≡ entryBytes (lengthened w (entries t)) ++ drop (4 * entries t) t → k ≡ number (a .outcome) →
+    pub long-table : (m : ℕ) → maxStates ≤ m → m ≤ entries t → (s′ w t′ : List ℕ) (k : ℕ) → Solved s (replicate m 0) budget a s′ w → t′ ≡ entryBytes (lengthened w (entries t)) ++ drop (4 * entries t) t → k ≡ number (a .outcome) →
         Hosted s t budget r k s′ t′ r′
     unfolding hostNumber hostSheet hostTable hostResult
     long-table m enough le s′ w t′ k solved put e =
         let answer : a ≡ answerTo s (entries t) budget = solved .0 ∙ rw length-replicate (same-answer s budget m (entries t) enough le) in
         let sheet : s′ ≡ bytesAfter s (entries t) budget = solved .1 .0 ∙ rw length-replicate (same-bytes s budget m (entries t) enough le) in
-        rw (le-leb 24 (length r) room, le-leb 1024 (entries t) (omega arith), same-table s budget m (entries t) enough le, ← answer, ← sheet, ← (solved .1 .1)) (e, (refl, (put, told)))
+        rw (le-leb 24 (length r) room, le-leb maxStates (entries t) (omega arith), same-table s budget m (entries t) enough le, ← answer, ← sheet, ← (solved .1 .1)) (e, (refl, (put, told)))

@@ -5,6 +5,7 @@ use mathlib.Core.List.{List, [], _∷_, _++_}
 use lib.Dec.{leb}
 use lib.ListN.{length, drop, replicate}
 use Rattle.model.specs.Tests.{fork}
+use Rattle.model.specs.Questions.{maxStates}
 use Rattle.model.specs.Report.{number, answerTo, bytesAfter, tableAfter}
 
 -- numbers, least significant byte first
@@ -45,7 +46,7 @@ hostSheet s t budget r = fork (room r) (λ _. bytesAfter s (entries t) budget) (
 unfoldable pub hostTable : List ℕ → List ℕ → ℕ → List ℕ → List ℕ
 hostTable s t budget r =
     fork (room r)
-    (λ _. fork (leb 1024 (entries t)) (λ _. entryBytes (tableAfter s (replicate (entries t) 0) budget) ++ drop (4 * entries t) t) (λ _. t))
+    (λ _. fork (leb maxStates (entries t)) (λ _. entryBytes (tableAfter s (replicate (entries t) 0) budget) ++ drop (4 * entries t) t) (λ _. t))
     (λ _. t)
 
 -- the result's bytes after: price, passes and raises in the first 24, the rest untouched

@@ -9,7 +9,11 @@ ghost use Rattle.host.specs.Host.{le32, le64, entries, entryBytes, lengt
 use ldfs::refusal;
 use ldfs::solve;
 use model::Answer;
+use model::MAX_STATES;
 use model::Outcome;
+
+// The fewest bytes of a table.
+const TABLE_BYTES: usize = 4 * MAX_STATES;
 
 // The low eight bits of a number.
 pub fn low(x: u64) -> u8
@@ -56,7 +60,7 @@ pub fn entry(table: &[u32], i: usize) -> u64
 }
 
 // The entries of the index table as bytes, as far as whole entries go.
-pub fn put_table(bytes: &mut [u8], table: &[u32; 1024])
+pub fn put_table(bytes: &mut [u8], table: &[u32; MAX_STATES])
     ensures { λ _. ⌜ now (bytes .exit) ≡ entryBytes (lengthened (now (table .entry)) (entries (now (bytes .entry)))) ++ drop (4 * entries (now (bytes .entry))) (now (bytes .entry)) ⌝ }
 {
     let n = bytes.len() / 4;
@@ -95,11 +99,11 @@ pub extern "C" fn ldfs_solve(
     if result.len() < 24 {
         return 1;
     }
-    if table.len() < 4096 {
+    if table.len() < TABLE_BYTES {
         put_answer(result, refusal(1));
         return 1;
     }
-    let mut index = [0u32; 1024];
+    let mut index = [0u32; MAX_STATES];
     let a = solve(sheet, &mut index, budget);
     put_table(table, &index);
     put_answer(result, a);

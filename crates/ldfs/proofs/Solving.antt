@@ -14,7 +14,7 @@ use Rattle.model.specs.Problem.{Problem, Cell, states, cellOf, valueOf, solved}
 use Rattle.model.specs.Format.{be16, offset, offsetsFrom, write}
 use Rattle.model.specs.Read.{problemOf, cellsOf}
 use Rattle.model.specs.QValue.{ceiling}
-use Rattle.model.specs.Questions.{question1, question9, Question, sheetQuestions, firstNo, sheetRefusal, refusal, accepted, AllYes, none-no, all-yes}
+use Rattle.model.specs.Questions.{maxStates, question1, question9, Question, sheetQuestions, firstNo, sheetRefusal, refusal, accepted, AllYes, none-no, all-yes}
 use Rattle.model.specs.Ldfs.{Search, searchOf, work}
 use Rattle.model.specs.Report.{outcomeOf, cellsAfter, raisesOf, refused, onRefusal, answerTo, bytesAfter, indexTable, refusedTable, checkedTable, tableAfter}
 use Rattle.layout.specs.Shape.{Bytes, Shaped}
@@ -159,7 +159,7 @@ module _ (s t : List ℕ) (budget : ℕ) where
       -- the table is long enough, and as long as it was
       enough : states (problemOf s) ≤ length t
       unfolding question1
-      enough = omega (arith, leb-true 1024 (length t) (yes .0), stands .asked .shaped .most)
+      enough = omega (arith, leb-true maxStates (length t) (yes .0), stands .asked .shaped .most)
 
       long : length t′ ≡ length t
       long = ap length filled ∙ index-length (problemOf s) (length t) enough

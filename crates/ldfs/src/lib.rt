@@ -13,6 +13,7 @@ ghost use Rattle.model.specs.Report.{refused, finished, answerTo, bytesAfter, t
 ghost use Rattle.sheet.specs.Sheet.{Sheet, Within};
 ghost use Rattle.ldfs.specs.Did.{Workable, Finished};
 use model::Answer;
+use model::LONG_CEILING;
 use model::Outcome;
 use passes::work;
 use questions::Verdict;
@@ -48,7 +49,7 @@ pub fn finish(sheet: &mut [u8], table: &[u32], budget: u64) -> Answer
     let w = work(sheet, table, kind, start, budget);
     let price = long(value_at(sheet, table, start));
     if solved_at(sheet, table, start) {
-        if price < 1000000000 {
+        if price < LONG_CEILING {
             Answer {
                 outcome: Outcome::Settled,
                 price,

@@ -11,6 +11,7 @@ ghost use Rattle.model.specs.QValue.{q, least};
 ghost use Rattle.model.specs.Ldfs.{Search, Visit, success, failure, marked, onVisit, update as updated, visit as visited};
 ghost use Rattle.sheet.specs.Sheet.{Sheet, Within, Terminal, Decision, costOf};
 ghost use Rattle.ldfs.specs.Did.{search, visitOf, Stored, Did, Workable};
+use model::CEILING;
 use sheet::fields::action_here;
 use sheet::fields::first_action;
 use sheet::fields::is_terminal;
@@ -120,7 +121,7 @@ pub fn least_price(sheet: &[u8], table: &[u32], kind: u8, state: usize) -> u32
 {
     let mut at: usize = first_action(sheet, table, state);
     let mut i: usize = 0;
-    let mut m: u32 = 1000000000;
+    let mut m: u32 = CEILING;
     while action_here(sheet, at) {
         let a = at;
         at = next_action(sheet, a);

@@ -11,7 +11,7 @@ use Rattle.model.specs.declared.Answer.{Answer}
 use Rattle.model.specs.declared.Outcome.the-variants.{Settled}
 use Rattle.model.specs.Problem.{states}
 use Rattle.model.specs.Read.{problemOf, cellsOf}
-use Rattle.model.specs.Questions.{question1, refusal, accepted}
+use Rattle.model.specs.Questions.{maxStates, question1, refusal, accepted}
 use Rattle.model.specs.Report.{largest, onRefusal, answerTo, bytesAfter, tableAfter}
 use Rattle.layout.specs.Shape.{Bytes}
 use Rattle.sheet.proofs.Laws.{own}
@@ -22,7 +22,7 @@ use Rattle.ldfs.specs.Made.{Solved}
 use Rattle.ldfs.proofs.Solving.{indexed}
 use Rattle.listing.specs.declared.Listed.{Listed}
 use Rattle.listing.specs.declared.Listed.the-variants.{TooShort, Written}
-use Rattle.listing.specs.Listing.{lineOne, planOf, listing, listedAs, sheetListed, tableListed, textListed}
+use Rattle.listing.specs.Listing.{lineOne, planOf, listing, enough, listedAs, sheetListed, tableListed, textListed}
 use Rattle.listing.specs.Put.{Wrote, Worked}
 use Rattle.listing.proofs.Writing.{wrote-behind}
 
@@ -46,7 +46,7 @@ module _ (s t : List ℕ) (budget : ℕ) (bytes : Bytes s) where
       h = called .stands
 
       long : states (problemOf s) ≤ length t
-      long = omega (arith, leb-true 1024 (length t) (yes .0), h .asked .shaped .most)
+      long = omega (arith, leb-true maxStates (length t) (yes .0), h .asked .shaped .most)
 
   settled-worked : answerTo s (length t) budget .outcome ≡ Settled → Worked (bytesAfter s (length t) budget) (tableAfter s t budget)
   settled-worked e = go (refusal s (length t) budget) refl
@@ -64,13 +64,13 @@ abbrev Leaves : List ℕ → List ℕ → List ℕ → Listed → List ℕ → L
 Leaves s t out r s′ t′ out′ = (r ≡ listedAs s t out) × ((s′ ≡ sheetListed s t out) × ((t′ ≡ tableListed s t out) × (out′ ≡ textListed s t out)))
 
 module _ (s t out : List ℕ) where
-  pub too-short : length out < 84000 → Leaves s t out TooShort s t out
+  pub too-short : length out < enough → Leaves s t out TooShort s t out
   unfolding listedAs sheetListed tableListed textListed
-  too-short h = rw (lt-leb 84000 (length out) h) (refl, (refl, (refl, refl)))
+  too-short h = rw (lt-leb enough (length out) h) (refl, (refl, (refl, refl)))
 
-  pub written : 84000 ≤ length out → (a : Answer) (s′ t′ : List ℕ) → Solved s t largest a s′ t′ → {mid out′ : List ℕ} {next end : ℕ} →
+  pub written : enough ≤ length out → (a : Answer) (s′ t′ : List ℕ) → Solved s t largest a s′ t′ → {mid out′ : List ℕ} {next end : ℕ} →
       Wrote out mid 0 next (lineOne a) → Wrote mid out′ next end (planOf (a .outcome) s′) → Leaves s t out (Written end) s′ t′ out′
   unfolding listedAs sheetListed tableListed textListed listing
   written long a s′ t′ h {mid} {out′} {next} {end} v w =
       let u = wrote-behind v w in
-      rw (le-leb 84000 (length out) long, ← (h .0), ← (h .1 .0), ← (h .1 .1)) (ap Written (u .behind ∙ zero-add _), (refl, (refl, u .bytes ∙ rw zero-add)))
+      rw (le-leb enough (length out) long, ← (h .0), ← (h .1 .0), ← (h .1 .1)) (ap Written (u .behind ∙ zero-add _), (refl, (refl, u .bytes ∙ rw zero-add)))

@@ -1,5 +1,5 @@
 -- What `price` prints: document 01's "What the price program prints".
-use Prim.Native.Nat.{ℕ, zero, suc}
+use Prim.Native.Nat.{ℕ, zero, suc, _+_, _*_}
 use mathlib.Core.Bool.{Bool, false, _||_}
 use mathlib.Core.List.{List, [], _∷_, _++_}
 use lib.Dec.{eqb, leb}
@@ -10,6 +10,7 @@ use Rattle.model.specs.declared.Answer.{Answer}
 use Rattle.model.specs.Tests.{fork, also}
 use Rattle.model.specs.Problem.{Node, terminal, decision, Problem, Cell, states, nodeAt, actionAt, cellOf}
 use Rattle.model.specs.Read.{problemOf, cellsOf}
+use Rattle.model.specs.Questions.{maxStates}
 use Rattle.model.specs.Report.{largest, answerTo, bytesAfter, tableAfter}
 use Rattle.listing.specs.declared.Listed.{Listed}
 use Rattle.listing.specs.declared.Listed.the-variants.{TooShort, Written}
@@ -78,10 +79,10 @@ planOf Stopped s = []
 unfoldable pub listing : List ℕ → ℕ → List ℕ
 listing s entries = lineOne (answerTo s entries largest) ++ planOf (answerTo s entries largest .outcome) (bytesAfter s entries largest)
 
--- No listing has more bytes than this. A shorter buffer is too short, whatever the sheet: it gets that answer, and sheet, table and buffer are left as
+-- No listing has more bytes than this: line one has at most 71, and a stage's line 81. A shorter buffer is too short, whatever the sheet: it gets that answer, and sheet, table and buffer are left as
 -- they are.
 abbrev pub enough : ℕ
-enough = 84000
+enough = 71 + 81 * maxStates
 
 -- what `list` answers
 unfoldable pub listedAs : List ℕ → List ℕ → List ℕ → Listed

@@ -7,10 +7,11 @@ ghost use mathlib.Core.Path.{_≡_};
 ghost use Rattle.listing.specs.Listing.{listedAs, sheetListed, tableListed, textListed};
 use ldfs::solve;
 use lines::put_answer;
+use model::MAX_STATES;
 use plan::put_plan;
 
-// The bytes that a buffer must have: no listing has more.
-pub const ENOUGH: usize = 84000;
+// The bytes that a buffer must have. No listing has more: line one has at most 71, and a stage's line 81.
+pub const ENOUGH: usize = 71 + 81 * MAX_STATES;
 
 // What became of a listing: the number of its bytes, or that the buffer is too short for one.
 pub enum Listed {

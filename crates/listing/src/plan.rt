@@ -5,10 +5,12 @@ ghost use Prim.Native.Nat.{ℕ, _+_, _*_, _<_, _≤_};
 ghost use lib.ListN.{length, getD, drop, replicate};
 ghost use Rattle.model.specs.Problem.{states};
 ghost use Rattle.model.specs.Read.{problemOf, cellsOf, actionRead, actionFits};
+ghost use Rattle.model.specs.Questions.{maxStates};
 ghost use Rattle.listing.specs.Listing.{findings, reachedBelow, stateLines, planOf};
 ghost use Rattle.listing.specs.Put.{Wrote, Worked, raised};
 ghost use Rattle.model.specs.declared.Outcome.the-variants.{Settled};
 use super::lines::put_state;
+use model::MAX_STATES;
 use model::Outcome;
 use questions::states::action_at;
 use sheet::fields::chosen_at;
@@ -84,8 +86,8 @@ pub fn put_reached(
     at: usize,
 ) -> usize
     requires { ⌜ Worked (now sheet) (now table) ⌝ }
-    requires { ⌜ now flags ≡ replicate 1024 false ⌝ }
-    requires { ⌜ at + 82944 ≤ length (now out) ⌝ }
+    requires { ⌜ now flags ≡ replicate maxStates false ⌝ }
+    requires { ⌜ at + 81 * maxStates ≤ length (now out) ⌝ }
     ensures { λ r. ⌜ Wrote (now (out .entry)) (now (out .exit)) at r (stateLines (problemOf (now (sheet .entry))) (cellsOf (now (sheet .entry))) (states (problemOf (now (sheet .entry))))) ⌝ }
 {
     let n = place(get16(sheet, 4));
@@ -97,12 +99,12 @@ pub fn put_reached(
 // The lines that follow line one: none but when settled.
 pub fn put_plan(sheet: &[u8], table: &[u32], out: &mut [u8], at: usize, o: Outcome) -> usize
     requires { ⌜ (o ≡ Settled → Worked (now sheet) (now table)) ⌝ }
-    requires { ⌜ at + 82944 ≤ length (now out) ⌝ }
+    requires { ⌜ at + 81 * maxStates ≤ length (now out) ⌝ }
     ensures { λ r. ⌜ Wrote (now (out .entry)) (now (out .exit)) at r (planOf o (now (sheet .entry))) ⌝ }
 {
     match o {
         Outcome::Settled => {
-            let mut flags = [false; 1024];
+            let mut flags = [false; MAX_STATES];
             put_reached(sheet, table, &mut flags, out, at)
         }
         Outcome::Refused(_) => at,

@@ -16,6 +16,13 @@ use Rattle.model.specs.QValue.{ceiling, q}
 abbrev pub maxStates : ℕ
 maxStates = 1024
 
+-- the most bytes that a sheet has, and the largest cost of a check or an ending
+abbrev pub maxBytes : ℕ
+maxBytes = 60000
+
+abbrev pub maxCost : ℕ
+maxCost = 1000000
+
 -- every stage of a problem passes
 abbrev pub everyState : Problem → (ℕ → Node → Bool) → Bool
 everyState p f = every (states p) (λ s. f s (nodeAt p s))
@@ -30,7 +37,7 @@ question1 entries = leb maxStates entries
 
 -- 2: has the sheet 20 to 60,000 bytes?
 unfoldable pub question2 : List ℕ → Bool
-question2 s = all (leb 20 (length s) ∷ leb (length s) 60000 ∷ [])
+question2 s = all (leb 20 (length s) ∷ leb (length s) maxBytes ∷ [])
 
 -- 3: does it begin with a head whose kind is 0 or 1, stages 1 to 1,024, start below that number?
 unfoldable pub question3 : List ℕ → Bool
@@ -47,8 +54,8 @@ question4 s = nodesGood (be16 s 4) (drop 8 s)
 -- 5: are check costs 1 to 1,000,000, ending costs 0 to 1,000,000, values 0 to the ceiling, marks 0 or 1, chosen checks 0 at open junctions
 -- and below the junction's number of checks at settled ones?
 unfoldable pub costsInRange : Node → Bool
-costsInRange (terminal cost) = leb cost 1000000
-costsInRange (decision acts) = everyAction acts (λ a. all (leb 1 (a .cost) ∷ leb (a .cost) 1000000 ∷ []))
+costsInRange (terminal cost) = leb cost maxCost
+costsInRange (decision acts) = everyAction acts (λ a. all (leb 1 (a .cost) ∷ leb (a .cost) maxCost ∷ []))
 
 unfoldable pub chosenInRange : Node → Cell → Bool
 chosenInRange (terminal cost) c = true

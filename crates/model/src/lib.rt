@@ -1,4 +1,17 @@
-// The types that the code and the definitions of specs/ share. There are no functions here.
+// The limits and types that the code and the definitions of specs/ share. There are no functions here.
+
+// Document 01's limits, which `specs/Questions.antt` has as `maxStates`, `maxBytes` and `maxCost`, and `specs/QValue.antt` as `ceiling`: the most stages of a
+// sheet, which is the fewest entries of its index table too; the most bytes of a sheet; the largest cost of a check or an ending; the largest value.
+pub const MAX_STATES: usize = 1024;
+
+pub const MAX_BYTES: usize = 60000;
+
+pub const MAX_COST: u32 = 1000000;
+
+pub const CEILING: u32 = 1000000000;
+
+// The ceiling as a number of 64 bits, which sums are compared with.
+pub const LONG_CEILING: u64 = CEILING as u64;
 
 // How a call ended. `specs/Report.antt` gives document 01's number for each case.
 pub enum Outcome {

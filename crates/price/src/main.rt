@@ -4,6 +4,8 @@ use libc::STDOUT_FILENO;
 use listing::ENOUGH;
 use listing::Listed;
 use listing::list;
+use model::MAX_BYTES;
+use model::MAX_STATES;
 
 // Writes the first `n` bytes of a listing, or says on standard error why it cannot.
 fn write(out: &[u8], n: usize) {
@@ -16,7 +18,7 @@ fn write(out: &[u8], n: usize) {
 
 // Lists a sheet.
 fn price(sheet: &mut [u8]) {
-    let mut table = [0u32; 1024];
+    let mut table = [0u32; MAX_STATES];
     let mut out = [0u8; ENOUGH];
     let listed = list(sheet, &mut table, &mut out);
     match listed {
@@ -29,7 +31,7 @@ fn price(sheet: &mut [u8]) {
 
 // One byte more is read than a sheet may have, so that a longer one is refused. A read that fails leaves a part of a sheet, which is refused too.
 fn main() {
-    let mut sheet = [0u8; 60001];
+    let mut sheet = [0u8; MAX_BYTES + 1];
     let n = io::read_full(STDIN_FILENO, &mut sheet);
     price(&mut sheet[..n]);
 }

@@ -12,7 +12,7 @@ use Rattle.model.specs.Tests.{all, every}
 use Rattle.model.specs.Problem.{Problem, Cell, states}
 use Rattle.model.specs.Format.{be16, offsetsFrom}
 use Rattle.model.specs.Read.{nodesGood, nodesRead, kindOf, problemOf, cellsOf}
-use Rattle.model.specs.Questions.{question1, question2, question3, question4, question5, question6, question7, question8, Question, sheetQuestions, firstNo, sheetRefusal, none-no}
+use Rattle.model.specs.Questions.{maxStates, maxBytes, question1, question2, question3, question4, question5, question6, question7, question8, Question, sheetQuestions, firstNo, sheetRefusal, none-no}
 use Rattle.model.specs.Report.{onRefusal, indexTable, refusedTable, checkedTable}
 use Rattle.layout.specs.Shape.{Bytes}
 use Rattle.layout.proofs.Same.{read-writes, read-shaped, read-count, head-says}
@@ -81,14 +81,14 @@ module _ (s : List ℕ) where
   too-short h = rw (lt-leb 20 (length s) h)
 
   module _ (ge : 20 ≤ length s) where
-    pub too-long : 60000 < length s → 2 ≡ firstNo 2 (sheetQuestions s)
+    pub too-long : maxBytes < length s → 2 ≡ firstNo 2 (sheetQuestions s)
     unfolding firstNo question2 all
-    too-long h = rw (le-leb 20 (length s) ge, lt-leb (length s) 60000 h)
+    too-long h = rw (le-leb 20 (length s) ge, lt-leb (length s) maxBytes h)
 
-    module _ (le : length s ≤ 60000) where
+    module _ (le : length s ≤ maxBytes) where
       two : question2 s ≡ true
       unfolding question2 all
-      two = rw (le-leb 20 (length s) ge, le-leb (length s) 60000 le)
+      two = rw (le-leb 20 (length s) ge, le-leb (length s) maxBytes le)
 
       pub no-3 : question3 s ≡ false → 3 ≡ firstNo 2 (sheetQuestions s)
       unfolding firstNo
@@ -150,23 +150,23 @@ first-from n (ask ∷ more) = go (ask tt) refl (first-from (suc n) more)
 
 -- The verdict, and the table once questions 1 to 8 have been put.
 module _ (s t : List ℕ) where
-  pub short-table : length t < 1024 → (Refused 1 ≡ verdict (sheetRefusal s (length t))) × (t ≡ checkedTable s t)
+  pub short-table : length t < maxStates → (Refused 1 ≡ verdict (sheetRefusal s (length t))) × (t ≡ checkedTable s t)
   unfolding checkedTable sheetRefusal firstNo question1 verdict onRefusal refusedTable
-  short-table h = rw (lt-leb 1024 (length t) h) (refl, refl)
+  short-table h = rw (lt-leb maxStates (length t) h) (refl, refl)
 
-  module _ (ge : 1024 ≤ length t) (r : ℕ) (is : r ≡ firstNo 2 (sheetQuestions s)) where
+  module _ (ge : maxStates ≤ length t) (r : ℕ) (is : r ≡ firstNo 2 (sheetQuestions s)) where
     refusal-is : sheetRefusal s (length t) ≡ r
     unfolding sheetRefusal question1
-    refusal-is = yes 1 (λ _. question1 (length t)) (sheetQuestions s) (le-leb 1024 (length t) ge) ∙ sym is
+    refusal-is = yes 1 (λ _. question1 (length t)) (sheetQuestions s) (le-leb maxStates (length t) ge) ∙ sym is
 
     -- an accepted sheet's head and its number of states
-    pub accepted-head : r ≡ 0 → Bytes s → (n : ℕ) → n ≡ be16 s 4 → (n ≡ states (problemOf s)) × (n ≤ 1024) × (8 ≤ length s)
+    pub accepted-head : r ≡ 0 → Bytes s → (n : ℕ) → n ≡ be16 s 4 → (n ≡ states (problemOf s)) × (n ≤ maxStates) × (8 ≤ length s)
     accepted-head none byte n count =
         let y = none-no 1 (sheetQuestions s) (sym is ∙ none) in
         let h = head-says s (y .1 .0) in
         (count ∙ sym (read-count s byte (y .1 .0) (y .1 .1 .0)), omega arith, h .2)
 
-    pub accepted-table : (n : ℕ) → n ≡ states (problemOf s) → n ≤ 1024 → (t′ t″ : List ℕ) → r ≡ 0 → t′ ≡ offsetsFrom 8 (problemOf s .nodes) ++ drop (states (problemOf s)) t →
+    pub accepted-table : (n : ℕ) → n ≡ states (problemOf s) → n ≤ maxStates → (t′ t″ : List ℕ) → r ≡ 0 → t′ ≡ offsetsFrom 8 (problemOf s .nodes) ++ drop (states (problemOf s)) t →
         t″ ≡ take n t′ ++ replicate (length t′ - n) 0 → (Accepted ≡ verdict (sheetRefusal s (length t))) × (t″ ≡ checkedTable s t)
     unfolding checkedTable verdict onRefusal indexTable
     accepted-table n count le t′ t″ none first last =

@@ -12,7 +12,7 @@ use Rattle.model.specs.Problem.{Node, terminal, decision, Cell, nodeAt, cellOf,
 use Rattle.model.specs.Format.{actionsOf, actionOffset}
 use Rattle.model.specs.Read.{actionRead, kindOf, problemOf, cellsOf}
 use Rattle.model.specs.QValue.{ceiling, q}
-use Rattle.model.specs.Questions.{costsInRange, chosenInRange, cellInRange, allSolved, passedBy, markEarned}
+use Rattle.model.specs.Questions.{maxCost, costsInRange, chosenInRange, cellInRange, allSolved, passedBy, markEarned}
 use Rattle.sheet.specs.Sheet.{Terminal, Decision, Priced, costOf}
 use Rattle.sheet.proofs.Laws.{actionsAt, is-terminal, few-actions}
 use Rattle.questions.specs.Put.{rangesAt, countInRange, Ordered, ChosenExists}
@@ -43,9 +43,9 @@ module _ (n : Node) (c : Cell) where
       unfolding cellInRange ceiling all
       cell-is = rw (le-leb (c .value) 1000000000 low, le-leb (c .mark) 1 bit) (sym (all-last (chosenInRange n c)))
 
-      pub terminal-range : (cost : ℕ) → n ≡ terminal cost → leb cost 1000000 ≡ rangesAt n c
+      pub terminal-range : (cost : ℕ) → n ≡ terminal cost → leb cost maxCost ≡ rangesAt n c
       unfolding rangesAt costsInRange chosenInRange all
-      terminal-range cost e = rw (cell-is, e) (last (leb cost 1000000))
+      terminal-range cost e = rw (cell-is, e) (last (leb cost maxCost))
         where
           last : (b : Bool) → b ≡ all (b ∷ true ∷ [])
           last true = all-last true

@@ -15,7 +15,7 @@ use Rattle.model.specs.Tests.{also, all, all-true}
 use Rattle.model.specs.Format.{be16, actionsSize, nodeSize, offsetsFrom}
 use Rattle.model.specs.Read.{actionFits, actionsGood, actionsRead, actionsLong, terminalFits, headerFits, decisionFits, nodesGood, nodesRead}
 use Rattle.layout.proofs.Bytes.{getD-from, be16-from}
-use Rattle.model.specs.Questions.{question3}
+use Rattle.model.specs.Questions.{maxStates, question3}
 use Rattle.layout.proofs.Index.{actions-size}
 
 all-last : (b : Bool) → all (b ∷ []) ≡ b
@@ -299,10 +299,10 @@ module _ (s : List ℕ) (le : 8 ≤ length s) where
         head-none h = rw (eq-eqb (getD s 0 0) 1 one, eq-eqb (be16 s 1) 5 five, le-leb 8 (length s) le, le-leb (getD s 3 0) 1 kind, lt-leb 1 (be16 s 4) h)
 
         module _ (some : 1 ≤ be16 s 4) where
-          pub head-many : 1024 < be16 s 4 → false ≡ question3 s
+          pub head-many : maxStates < be16 s 4 → false ≡ question3 s
           unfolding question3 all
-          head-many h = rw (eq-eqb (getD s 0 0) 1 one, eq-eqb (be16 s 1) 5 five, le-leb 8 (length s) le, le-leb (getD s 3 0) 1 kind, le-leb 1 (be16 s 4) some, lt-leb (be16 s 4) 1024 h)
+          head-many h = rw (eq-eqb (getD s 0 0) 1 one, eq-eqb (be16 s 1) 5 five, le-leb 8 (length s) le, le-leb (getD s 3 0) 1 kind, le-leb 1 (be16 s 4) some, lt-leb (be16 s 4) maxStates h)
 
-          pub head-start : be16 s 4 ≤ 1024 → ltb (be16 s 6) (be16 s 4) ≡ question3 s
+          pub head-start : be16 s 4 ≤ maxStates → ltb (be16 s 6) (be16 s 4) ≡ question3 s
           unfolding question3 all
-          head-start h = rw (eq-eqb (getD s 0 0) 1 one, eq-eqb (be16 s 1) 5 five, le-leb 8 (length s) le, le-leb (getD s 3 0) 1 kind, le-leb 1 (be16 s 4) some, le-leb (be16 s 4) 1024 h) (sym (all-last _))
+          head-start h = rw (eq-eqb (getD s 0 0) 1 one, eq-eqb (be16 s 1) 5 five, le-leb 8 (length s) le, le-leb (getD s 3 0) 1 kind, le-leb 1 (be16 s 4) some, le-leb (be16 s 4) maxStates h) (sym (all-last _))

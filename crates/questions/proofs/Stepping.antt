@@ -14,7 +14,7 @@ use Rattle.model.specs.Problem.{decision, Problem, Cell, states, nodeAt, action
 use Rattle.model.specs.Format.{terminalTag, decisionTag, actionTag, tagOf, actionsOf, actionOffset}
 use Rattle.model.specs.Read.{actionFits, actionRead, kindOf, problemOf, cellsOf}
 use Rattle.model.specs.QValue.{q}
-use Rattle.model.specs.Questions.{costsInRange, ascending, successorsInOrder, question6, valueUnder, allSolved, passedBy, markEarned}
+use Rattle.model.specs.Questions.{maxCost, costsInRange, ascending, successorsInOrder, question6, valueUnder, allSolved, passedBy, markEarned}
 use Rattle.sheet.specs.Sheet.{Sheet, Within, Terminal, Decision, Priced, costOf}
 use Rattle.sheet.proofs.Laws.{actionsAt, not-terminal, is-terminal, is-decision, few-actions, action-stands, action-ends, action-is, action-in-place, action-priced, action-after}
 use Rattle.questions.specs.Put.{countInRange, Ordered}
@@ -34,7 +34,7 @@ module _ (n : ℕ) (f : ℕ → Bool) (b : Bool) (is : b ≡ every n f) where
 
 -- the test of action k of decision s: questions 5, 6 and 7
 abbrev pub costOfFits : Problem → ℕ → ℕ → Bool
-costOfFits p s k = all (leb 1 (actionAt (actionsAt p s) k .cost) ∷ leb (actionAt (actionsAt p s) k .cost) 1000000 ∷ [])
+costOfFits p s k = all (leb 1 (actionAt (actionsAt p s) k .cost) ∷ leb (actionAt (actionsAt p s) k .cost) maxCost ∷ [])
 
 abbrev pub orderOf : Problem → ℕ → ℕ → ℕ → Bool
 orderOf p n s k = ascending s n (actionAt (actionsAt p s) k .successors)
@@ -98,17 +98,17 @@ pub solved-end : (ts : List ℕ) (cells : List Cell) (j : ℕ) → length ts ≤
 unfolding allSolved
 solved-end ts cells j le = rw (drop-of-length-le ts le)
 
-pub cost-low : (c : ℕ) → c < 1 → all (leb 1 c ∷ leb c 1000000 ∷ []) ≡ false
+pub cost-low : (c : ℕ) → c < 1 → all (leb 1 c ∷ leb c maxCost ∷ []) ≡ false
 unfolding all
 cost-low c h = rw (lt-leb 1 c h)
 
-pub cost-high : (c : ℕ) → 1 ≤ c → 1000000 < c → all (leb 1 c ∷ leb c 1000000 ∷ []) ≡ false
+pub cost-high : (c : ℕ) → 1 ≤ c → maxCost < c → all (leb 1 c ∷ leb c maxCost ∷ []) ≡ false
 unfolding all
-cost-high c g h = rw (le-leb 1 c g, lt-leb c 1000000 h)
+cost-high c g h = rw (le-leb 1 c g, lt-leb c maxCost h)
 
-pub cost-fits : (c : ℕ) → 1 ≤ c → c ≤ 1000000 → all (leb 1 c ∷ leb c 1000000 ∷ []) ≡ true
+pub cost-fits : (c : ℕ) → 1 ≤ c → c ≤ maxCost → all (leb 1 c ∷ leb c maxCost ∷ []) ≡ true
 unfolding all
-cost-fits c g h = rw (le-leb 1 c g, le-leb c 1000000 h)
+cost-fits c g h = rw (le-leb 1 c g, le-leb c maxCost h)
 
 -- question 6 gives that successors are states
 ascending-below : (low n : ℕ) (ts : List ℕ) → ascending low n ts ≡ true → (j : ℕ) → j < length ts → getD ts j 0 < n

@@ -9,16 +9,21 @@ ghost use lib.ListN.{length, drop, take, replicate};
 ghost use Rattle.model.specs.Problem.{states};
 ghost use Rattle.model.specs.Format.{offsetsFrom};
 ghost use Rattle.model.specs.Read.{kindOf, problemOf, cellsOf};
-ghost use Rattle.model.specs.Questions.{question3, sheetQuestions, firstNo, sheetRefusal};
+ghost use Rattle.model.specs.Questions.{maxStates, question3, sheetQuestions, firstNo, sheetRefusal};
 ghost use Rattle.model.specs.Report.{checkedTable};
 ghost use Rattle.sheet.specs.Sheet.{Within};
 ghost use Rattle.questions.specs.Put.{statesNo};
 ghost use Rattle.questions.specs.Verdicts.{verdict};
+use model::MAX_BYTES;
+use model::MAX_STATES;
 use sheet::numbers::get16;
 use sheet::numbers::place;
 use stages::stages_in_place;
 use states::Question;
 use states::all_pass;
+
+// The most stages, as the head has the number.
+const MOST_STATES: u32 = MAX_STATES as u32;
 
 // A sheet's answer to questions 1 to 8: accepted, or refused by the number of the first whose answer is no.
 pub enum Verdict {
@@ -40,7 +45,7 @@ pub fn head_in_place(s: &[u8]) -> bool
             if n < 1 {
                 return false;
             }
-            if n > 1024 {
+            if n > MOST_STATES {
                 return false;
             }
             get16(s, 6) < n
@@ -79,14 +84,14 @@ pub fn states_no(sheet: &[u8], table: &[u32], kind: u8, n: usize) -> u32
 
 // Questions 2 to 8: the number of the first whose answer is no, 0 where there is none; then the table begins with the stages' offsets.
 pub fn first_no(sheet: &[u8], table: &mut [u32]) -> u32
-    requires { ⌜ 1024 ≤ length (now table) ⌝ }
+    requires { ⌜ maxStates ≤ length (now table) ⌝ }
     ensures { λ r. ⌜ r ≡ firstNo 2 (sheetQuestions (now (sheet .entry))) ⌝ }
     ensures { λ r. ⌜ (r ≡ 0 → now (table .exit) ≡ offsetsFrom 8 (problemOf (now (sheet .entry)) .nodes) ++ drop (states (problemOf (now (sheet .entry)))) (now (table .entry))) ⌝ }
 {
     if sheet.len() < 20 {
         return 2;
     }
-    if sheet.len() > 60000 {
+    if sheet.len() > MAX_BYTES {
         return 2;
     }
     if head_in_place(sheet) {
@@ -119,7 +124,7 @@ pub fn check(sheet: &[u8], table: &mut [u32]) -> Verdict
     ensures answer { λ r. ⌜ r ≡ verdict (sheetRefusal (now (sheet .entry)) (length (now (table .entry)))) ⌝ }
     ensures table { λ _. ⌜ now (table .exit) ≡ checkedTable (now (sheet .entry)) (now (table .entry)) ⌝ }
 {
-    if table.len() < 1024 {
+    if table.len() < MAX_STATES {
         return Verdict::Refused(1);
     }
     let n = first_no(sheet, table);

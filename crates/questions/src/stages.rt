@@ -6,6 +6,7 @@ ghost use Prim.Native.Nat.{ℕ, _+_, _<_, _≤_};
 ghost use lib.ListN.{length, drop};
 ghost use Rattle.model.specs.Format.{be16, offsetsFrom};
 ghost use Rattle.model.specs.Read.{actionFits, terminalFits, headerFits, nodesGood, nodesRead};
+ghost use Rattle.model.specs.Questions.{maxBytes};
 use sheet::numbers::byte_at;
 use sheet::numbers::narrow;
 
@@ -18,7 +19,7 @@ pub fn small(x: u8) -> usize
 
 // The length of the content of the field at `at`, 0 where its bytes are not there.
 pub fn content_at(s: &[u8], at: usize) -> usize
-    requires { ⌜ at ≤ 60000 ⌝ }
+    requires { ⌜ at ≤ maxBytes ⌝ }
     ensures { λ r. ⌜ (r ≡ be16 (now (s .entry)) (at + 1)) × (r < 65536) ⌝ }
 {
     small(byte_at(s, at + 1)) * 256 + small(byte_at(s, at + 2))
@@ -26,7 +27,7 @@ pub fn content_at(s: &[u8], at: usize) -> usize
 
 // Is an ending's field, whose tag has been read, all there?
 pub fn terminal_fits(s: &[u8], at: usize) -> bool
-    requires { ⌜ (at ≤ length (now s)) × (length (now s) ≤ 60000) ⌝ }
+    requires { ⌜ (at ≤ length (now s)) × (length (now s) ≤ maxBytes) ⌝ }
     ensures { λ r. ⌜ r ≡ terminalFits (drop at (now (s .entry))) ⌝ }
 {
     if content_at(s, at) == 9 {
@@ -38,7 +39,7 @@ pub fn terminal_fits(s: &[u8], at: usize) -> bool
 
 // Is a junction's own field there, with a check behind it?
 pub fn header_fits(s: &[u8], at: usize) -> bool
-    requires { ⌜ (at ≤ length (now s)) × (length (now s) ≤ 60000) ⌝ }
+    requires { ⌜ (at ≤ length (now s)) × (length (now s) ≤ maxBytes) ⌝ }
     ensures { λ r. ⌜ r ≡ headerFits (drop at (now (s .entry))) ⌝ }
 {
     if byte_at(s, at) == 3 {
@@ -58,7 +59,7 @@ pub fn header_fits(s: &[u8], at: usize) -> bool
 
 // Has a check's field, whose tag has been read, a content of 6 to 36 bytes, even, all there?
 pub fn action_fits(s: &[u8], at: usize) -> bool
-    requires { ⌜ (at ≤ length (now s)) × (length (now s) ≤ 60000) ⌝ }
+    requires { ⌜ (at ≤ length (now s)) × (length (now s) ≤ maxBytes) ⌝ }
     ensures { λ r. ⌜ r ≡ actionFits (drop at (now (s .entry))) ⌝ }
 {
     let n = content_at(s, at);
@@ -78,7 +79,7 @@ pub fn action_fits(s: &[u8], at: usize) -> bool
 // Question 4, of a sheet whose head says so many stages. The first field out of place ends the reading, whichever loop it stands in. Where there is
 // none, the table begins with the stages' offsets.
 pub fn stages_in_place(s: &[u8], table: &mut [u32], states: usize) -> bool
-    requires { ⌜ (states ≤ length (now table)) × (8 ≤ length (now s)) × (length (now s) ≤ 60000) ⌝ }
+    requires { ⌜ (states ≤ length (now table)) × (8 ≤ length (now s)) × (length (now s) ≤ maxBytes) ⌝ }
     ensures { λ r. ⌜ r ≡ nodesGood states (drop 8 (now (s .entry))) ⌝ }
     ensures { λ r. ⌜ (r ≡ true → now (table .exit) ≡ offsetsFrom 8 (nodesRead states (drop 8 (now (s .entry)))) ++ drop states (now (table .entry))) ⌝ }
 {

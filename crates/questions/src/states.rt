@@ -11,6 +11,8 @@ ghost use Rattle.model.specs.Read.{kindOf, problemOf, cellsOf, actionFits, acti
 ghost use Rattle.model.specs.Questions.{ascending, successorsInOrder, valueUnder, allSolved, passedBy, markEarned, question6};
 ghost use Rattle.sheet.specs.Sheet.{Within, Decision, Priced};
 ghost use Rattle.questions.specs.Put.{rangesAt, countInRange, Ordered, ChosenExists, Before, passesAt};
+use model::CEILING;
+use model::MAX_COST;
 use sheet::fields::action_cost;
 use sheet::fields::action_here;
 use sheet::fields::chosen_at;
@@ -51,7 +53,7 @@ pub fn count_in_range(sheet: &[u8], table: &[u32], state: usize) -> usize
         if cost < 1 {
             return 0;
         }
-        if cost > 1000000 {
+        if cost > MAX_COST {
             return 0;
         }
         at = next_action(sheet, at);
@@ -65,7 +67,7 @@ pub fn in_range(sheet: &[u8], table: &[u32], state: usize) -> bool
     requires { ⌜ Within (now sheet) (now table) state ⌝ }
     ensures { λ r. ⌜ r ≡ rangesAt (nodeAt (problemOf (now (sheet .entry))) state) (cellOf (cellsOf (now (sheet .entry))) state) ⌝ }
 {
-    if value_at(sheet, table, state) > 1000000000 {
+    if value_at(sheet, table, state) > CEILING {
         return false;
     }
     let mark = mark_at(sheet, table, state);
@@ -73,7 +75,7 @@ pub fn in_range(sheet: &[u8], table: &[u32], state: usize) -> bool
         return false;
     }
     if is_terminal(sheet, table, state) {
-        return terminal_cost(sheet, table, state) <= 1000000;
+        return terminal_cost(sheet, table, state) <= MAX_COST;
     }
     let n = count_in_range(sheet, table, state);
     if n == 0 {

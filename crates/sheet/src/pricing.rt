@@ -11,6 +11,8 @@ use super::fields::successor;
 use super::fields::successor_count;
 use super::fields::value_at;
 use super::numbers::long;
+use model::CEILING;
+use model::LONG_CEILING;
 
 // What pricing an action gives.
 pub struct Pricing {
@@ -33,7 +35,7 @@ pub fn join_two(kind: u8, x: u64, y: u64) -> u64
 pub fn cut_off(x: u64) -> u32
     ensures { λ r. ⌜ (r ≡ cut x) × (r ≤ 1000000000) ⌝ }
 {
-    if x < 1000000000 { x as u32 } else { 1000000000 }
+    if x < LONG_CEILING { x as u32 } else { CEILING }
 }
 
 // The price of the action at `at`, by the current values.

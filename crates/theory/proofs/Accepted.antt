@@ -11,7 +11,7 @@ use lib.ListN.{length, List·getD-eq-default}
 use Rattle.model.specs.Tests.{fork, all, also-true, true-also, all-true, true-all, every-true, true-every}
 use Rattle.model.specs.Problem.{Action, action, Node, terminal, decision, Problem, Cell, cell, states, nodeAt, actionAt, cellOf, solved, _∈_, here, there}
 use Rattle.model.specs.QValue.{ceiling}
-use Rattle.model.specs.Questions.{costsInRange, chosenInRange, cellInRange, question5, ascending, successorsInOrder, question6, valueUnder, question7, allSolved, passedBy, markEarned, question8}
+use Rattle.model.specs.Questions.{maxCost, costsInRange, chosenInRange, cellInRange, question5, ascending, successorsInOrder, question6, valueUnder, question7, allSolved, passedBy, markEarned, question8}
 use Rattle.layout.proofs.Shapes.{node-shaped}
 use Rattle.layout.specs.Shape.{NodeShaped, ChosenShaped}
 use Rattle.theory.specs.Consistent.{WellFormed, Sound, Consistent}
@@ -73,7 +73,7 @@ module _ (p : Problem) (cells : List Cell) (h : Asked p cells) where
   }
     where
       cap : (s cost : ℕ) → nodeAt p s ≡ terminal cost → (s < states p) ⊎ (states p ≤ s) → cost ≤ ceiling
-      cap s cost e (inl l) = omega (arith, leb-true cost 1000000 (rw e at (five s l .0)))
+      cap s cost e (inl l) = omega (arith, leb-true cost maxCost (rw e at (five s l .0)))
       cap s cost e (inr le) = let z : cost ≡ 0 = cc (List·getD-eq-default (p .nodes) (terminal 0) {n = s} le) in omega arith
 
       ahead : (s i t : ℕ) (acts : List Action) → nodeAt p s ≡ decision acts → t ∈ actionAt acts i .successors → (i < length acts) ⊎ (length acts ≤ i) → (s < t) × (t < states p)
