@@ -1,22 +1,28 @@
--- The promise of a listing: the stages that it has lines for are those that the plan written in the sheet reaches from the start.
+-- The promises of a listing: the stages that it has lines for are those that the plan written in the sheet reaches from the start, and its price is the
+-- least cost.
 use Prim.Native.Nat.{ℕ, zero, suc, _≤_}
 use mathlib.Core.Path.{_≡_, refl, sym, subst}
 use mathlib.Core.Bool.{Bool, true, false, _||_}
 use mathlib.Core.Logic.{_⊎_, inl, inr, ⊎-elim}
-use mathlib.Core.List.{List, [], _∷_}
+use mathlib.Core.List.{List, [], _∷_, _++_}
 use native.Mathlib.Omega.{arith}
 use native.Mathlib.Nat.{eq-or-lt-of-le}
 use borrow.Author.Tests.{eqb-true, eq-eqb}
 use lib.Dec.{eqb}
+use Rattle.model.specs.declared.Answer.{Answer}
+use Rattle.model.specs.declared.Outcome.the-variants.{Settled, Stopped}
 use Rattle.model.specs.Tests.{never, also-true, true-also}
-use Rattle.model.specs.Problem.{Node, terminal, decision, Problem, Cell, nodeAt, actionAt, cellOf, _∈_, here, there}
+use Rattle.model.specs.Problem.{Node, terminal, decision, Problem, Cell, states, nodeAt, actionAt, cellOf, _∈_, here, there}
 use Rattle.model.specs.Read.{problemOf, cellsOf}
 use Rattle.model.specs.Policy.{Reach, arrived, onward, written}
+use Rattle.model.specs.Optimal.{optimal}
+use Rattle.model.specs.Report.{largest, answerTo, bytesAfter}
 use Rattle.model.specs.Demand3.{Accepted}
 use Rattle.theory.specs.Consistent.{WellFormed}
 use Rattle.theory.proofs.Sheets.{accepted-stands}
-use Rattle.theory.proofs.Promises.{problem-of}
-use Rattle.listing.specs.Listing.{findingsOf, findings, listed, reachedBelow, reached}
+use Rattle.theory.proofs.Promises.{problem-of, still-a-sheet, raises-small, settled-is-optimal, stopped-has-spent}
+use Rattle.listing.specs.Text.{ascii}
+use Rattle.listing.specs.Listing.{field, findingsOf, findings, listed, reachedBelow, reached, stateLines, listing}
 
 -- a test or another
 or-true : (a b : Bool) → (a || b) ≡ true → (a ≡ true) ⊎ (b ≡ true)
@@ -89,3 +95,20 @@ module _ (p : Problem) (cells : List Cell) where
 -- of an accepted sheet
 pub listed-is-reached : (s : List ℕ) → Accepted s → (t : ℕ) → (reached (problemOf s) (cellsOf s) t ≡ true → Reach (problemOf s) (written (cellsOf s)) (problemOf s .start) t) × (Reach (problemOf s) (written (cellsOf s)) (problemOf s .start) t → reached (problemOf s) (cellsOf s) t ≡ true)
 listed-is-reached s acc = reached-is (problemOf s) (cellsOf s) (problem-of (accepted-stands s (acc .bytes) (acc .yes)))
+
+-- What `price` prints of an accepted sheet: a settled price is the least cost of the start, with the plan's lines behind it; it never prints `stopped`.
+module _ (s : List ℕ) (acc : Accepted s) (entries : ℕ) where
+  abbrev answer : Answer
+  answer = answerTo s entries largest
+
+  abbrev after : List ℕ
+  after = bytesAfter s entries largest
+
+  pub settled-prints : answer .outcome ≡ Settled →
+      listing s entries ≡ (field (ascii "settled ") (optimal (problemOf s) (problemOf s .start)) ++ (field (ascii " ") (answer .passes) ++ (field (ascii " ") (answer .raises) ++ ascii "\n")))
+      ++ stateLines (problemOf s) (cellsOf after) (states (problemOf s))
+  unfolding listing
+  settled-prints e = rw (e, settled-is-optimal s acc entries largest e, still-a-sheet s acc entries largest .1)
+
+  pub never-stopped : answer .outcome ≡ Stopped → ⊥
+  never-stopped e = omega (arith, stopped-has-spent s acc entries largest e, raises-small s acc entries largest)
