@@ -2,12 +2,14 @@
 //!
 //! The sheet is copied afresh for every call, outside the measured time; the table and the result are cleared before each batch of
 //! calls, also outside, and not between its calls. Rounds of the three follow one another, and the quickest round of each counts.
+//! With a solver and a sheet as words it makes one call only, for a profiler.
 
 mod plain;
 mod sheets;
 
 use library::through;
 use sheets::Sample;
+use std::env;
 use std::thread;
 use std::time::{Duration, Instant};
 
@@ -20,7 +22,7 @@ extern "C" {
 const SOLVERS: [(&str, Solve); 3] =
     [("library", library::solve), ("plain Rust", plain::solve), ("plain C", |s, t, b, r| through(plain_solve, s, t, b, r))];
 
-const ROUNDS: usize = 15;
+const ROUNDS: usize = 50;
 const ROUND_TIME: Duration = Duration::from_millis(20);
 const MOST_COPIES: usize = 2_000;
 const STACK_BYTES: usize = 64 << 20;
@@ -31,6 +33,22 @@ fn main() {
 }
 
 fn run() {
+    let words: Vec<String> = env::args().skip(1).collect();
+    match &words[..] {
+        [] => measure_all(),
+        [solver, sheet] => once(solver, sheet),
+        _ => panic!("no words, or a solver and a sheet, as the table names them"),
+    }
+}
+
+/// One call, for a profiler.
+fn once(solver: &str, sheet: &str) {
+    let (_, solve) = SOLVERS.into_iter().find(|(name, _)| *name == solver).expect("a solver's name");
+    let sample = sheets::all().into_iter().find(|sample| sample.name == sheet).expect("a sheet's name");
+    batch(solve, &sample, 1);
+}
+
+fn measure_all() {
     if cfg!(debug_assertions) {
         println!("built without --release: these times say nothing");
     }
