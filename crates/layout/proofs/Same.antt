@@ -10,7 +10,7 @@ use borrow.Author.Tests.{eqb-true, leb-true, ltb-true}
 use lib.ListN.{length, getD, drop, length-drop, drop-of-length-le}
 use lib.Seq.{drop-drop, drop-cons, getD-drop}
 use Rattle.model.specs.Tests.{also-true, all-true}
-use Rattle.model.specs.Problem.{Node, terminal, decision, Cell, cell, states, cellOf}
+use Rattle.model.specs.Problem.{Node, terminal, decision, Cell, cell, cellOf}
 use Rattle.model.specs.Format.{be16, be32, headTag, terminalTag, decisionTag, actionTag, headLength, terminalLength, decisionLength, successorsBytes, actionBytes, actionsBytes, nodeBytes, nodesBytes, kindByte, write}
 use Rattle.model.specs.Read.{maxActions, tag, actionFits, successorsRead, actionRead, actionsGood, actionsRead, actionsLong, pastActions, terminalFits, headerFits, decisionFits, nodesGood, nodesRead, cellsRead, kindOf, problemOf, cellsOf}
 use Rattle.model.specs.Questions.{maxStates, question3, question4}
@@ -203,9 +203,6 @@ module _ (bs : List ℕ) (byte : Bytes bs) (head : question3 bs ≡ true) (body 
       let e = head-says bs head in let w = body-written in let kind = kind-same (getD bs 3 0) (e .3) in
       let t = two-back bs 1 byte in let n = two-back bs 4 byte in let m = two-back bs 6 byte in
       peel 8 0 bs (e .2) ∙ cc
-
-  pub read-count : states (problemOf bs) ≡ be16 bs 4
-  read-count = body-written .nodes-count
 
   pub read-shaped : Shaped (problemOf bs) (cellsOf bs)
   unfolding problemOf

@@ -1,9 +1,15 @@
--- The shape of one state, and of one action.
+-- The shape of one state and of one action, and where a successor of an ordered action lies.
 use Prim.Native.Nat.{ℕ, zero, suc, _<_}
+use mathlib.Core.Path.{_≡_}
+use mathlib.Core.Bool.{true}
 use mathlib.Core.List.{List, [], _∷_}
 use native.Mathlib.Omega.{arith}
+use borrow.Author.Tests.{ltb-true}
+use lib.Dec.{ltb}
 use lib.ListN.{length, getD}
-use Rattle.model.specs.Problem.{Action, Node, terminal, actionAt}
+use Rattle.model.specs.Tests.{all, also-true, all-true}
+use Rattle.model.specs.Problem.{Action, Node, terminal, actionAt, _∈_, here, there}
+use Rattle.model.specs.Questions.{ascending}
 use Rattle.layout.specs.Shape.{Few, ActionsShaped, NodeShaped, NodesShaped}
 
 pub node-shaped : (ns : List Node) → NodesShaped ns → (s : ℕ) → NodeShaped (getD ns s (terminal 0))
@@ -15,3 +21,22 @@ pub action-shaped : (acts : List Action) (k : ℕ) → k < length acts → Actio
 action-shaped [] k lt h = absurd (omega arith)
 action-shaped (a ∷ more) zero lt h = h .0
 action-shaped (a ∷ more) (suc k) lt h = action-shaped more k (omega arith) (h .1)
+
+-- a successor by its place is one of the successors
+pub member : (ts : List ℕ) (j : ℕ) → j < length ts → getD ts j 0 ∈ ts
+member [] j lt = absurd (omega arith)
+member (t ∷ ts) zero lt = here
+member (t ∷ ts) (suc j) lt = there (member ts j (omega arith))
+
+-- each of an ascending list lies between its bounds
+pub ascending-in : (low n : ℕ) (ts : List ℕ) → ascending low n ts ≡ true → (t : ℕ) → t ∈ ts → (low < t) × (t < n)
+unfolding ascending
+ascending-in low n [] h t m = absurd (elim m [ ])
+ascending-in low n (u ∷ ts) h t m = go t m (ascending-in u n ts (g .1))
+  where
+    g : (all (ltb low u ∷ ltb u n ∷ []) ≡ true) × (ascending u n ts ≡ true)
+    g = also-true _ _ h
+
+    go : (t : ℕ) → t ∈ (u ∷ ts) → ((t : ℕ) → t ∈ ts → (u < t) × (t < n)) → (low < t) × (t < n)
+    go t here ih = let e = all-true _ (g .0) in (ltb-true _ _ (e .0), ltb-true _ _ (e .1 .0))
+    go t (there m) ih = let e = all-true _ (g .0) in (omega (arith, ltb-true low u (e .0), ih t m), ih t m .1)

@@ -5,24 +5,24 @@ use mathlib.Core.Bool.{Bool, true, false}
 use mathlib.Core.List.{List, [], _∷_, _++_}
 use native.Mathlib.Omega.{arith}
 use borrow.Author.Tests.{lt-ltb, le-ltb, eq-eqb, le-leb, leb-true}
-use lib.ListN.{length, getD, take, replicate, length-append, length-replicate, List·getD-append}
+use lib.ListN.{length, getD, take, replicate, length-append, length-replicate}
 use Rattle.model.specs.declared.Answer.{Answer}
 use Rattle.model.specs.declared.Outcome.{Outcome}
 use Rattle.model.specs.declared.Outcome.the-variants.{Settled, Over, Stopped}
 use Rattle.model.specs.Tests.{fork}
 use Rattle.model.specs.Problem.{Problem, Cell, states, cellOf, valueOf, solved}
-use Rattle.model.specs.Format.{be16, offset, offsetsFrom, write}
+use Rattle.model.specs.Format.{be16, offset, write}
 use Rattle.model.specs.Read.{problemOf, cellsOf}
 use Rattle.model.specs.QValue.{ceiling}
 use Rattle.model.specs.Questions.{maxStates, question1, question9, Question, sheetQuestions, firstNo, sheetRefusal, refusal, accepted, AllYes, none-no, all-yes}
 use Rattle.model.specs.Ldfs.{Search, searchOf, work}
 use Rattle.model.specs.Report.{outcomeOf, cellsAfter, raisesOf, refused, onRefusal, answerTo, bytesAfter, indexTable, refusedTable, checkedTable, tableAfter}
-use Rattle.layout.specs.Shape.{Bytes, Shaped}
-use Rattle.layout.proofs.Index.{offsets-count, index-is}
+use Rattle.layout.specs.Shape.{Bytes}
+use Rattle.layout.proofs.Index.{offsets-count}
 use Rattle.theory.proofs.Accepted.{asked-problem, asked-cells}
 use Rattle.theory.proofs.Sheets.{Stands, accepted-stands, refusals-left}
 use Rattle.sheet.specs.Sheet.{Sheet, Within}
-use Rattle.sheet.proofs.Laws.{nine-room}
+use Rattle.sheet.proofs.Laws.{indexed, nine-room}
 use Rattle.questions.specs.declared.Verdict.the-variants.{Accepted, Refused as RefusedBy}
 use Rattle.questions.specs.Verdicts.{verdict}
 use Rattle.questions.proofs.Asking.{kind-is}
@@ -41,20 +41,9 @@ pub head-room : {s t : List ℕ} {i : ℕ} → Within s t i → 8 ≤ length s
 unfolding offset
 head-room {s} {t} {i} w = omega (arith, nine-room (w .sheet) i (w .below), w .sheet .table i (w .below))
 
--- A table that holds the index makes a sheet of what is written.
-module _ (p : Problem) (n : ℕ) (le : states p ≤ n) where
-  pub index-length : length (indexTable p n) ≡ n
-  unfolding indexTable
-  index-length = rw (length-append, offsets-count 8 (p .nodes), length-replicate) (omega arith)
-
-  pub indexed : {s t : List ℕ} {cells : List Cell} → s ≡ write p cells → Shaped p cells → t ≡ indexTable p n → Sheet s t p cells
-  unfolding indexTable
-  indexed is shaped e = record {
-    is = is;
-    shaped = shaped;
-    wide = rw (e, index-length) le;
-    table = λ i lt. rw e (List·getD-append (offsetsFrom 8 (p .nodes)) _ 0 i (rw (offsets-count 8 (p .nodes)) lt) ∙ index-is p i lt);
-  }
+index-length : (p : Problem) (n : ℕ) → states p ≤ n → length (indexTable p n) ≡ n
+unfolding indexTable
+index-length p n le = rw (length-append, offsets-count 8 (p .nodes), length-replicate) (omega arith)
 
 -- The answer of work that is done.
 search-of : (cells : List Cell) (way : Way) (r : ℕ) → searchOf (visitOf cells way r) ≡ search cells r
@@ -73,7 +62,7 @@ module _ (s : List ℕ) (budget : ℕ) {t s′ : List ℕ} {w : PassesMade} (d :
   begun-made = rw (← d .said)
 
   finished-with : (o : Outcome) (price : ℕ) → price ≡ valueOf (cellsOf s′) (problemOf s .start) → outcomeOf (cellOf (cellsOf s′) (problemOf s .start)) ≡ o →
-      Finished t s s′ (record { outcome = o; price = price; passes = w .begun; raises = w .raises }) budget
+      Finished s s′ (record { outcome = o; price = price; passes = w .begun; raises = w .raises }) budget
   finished-with o price v e = record {
     bytes = d .sheet .is ∙ ap (write (problemOf s)) (sym cells-left);
     said = rw (cells-left, begun-made, raises-made, e, v);
@@ -87,15 +76,15 @@ module _ (s : List ℕ) (budget : ℕ) {t s′ : List ℕ} {w : PassesMade} (d :
     marked : solved (cellOf (cellsOf s′) (problemOf s .start)) ≡ b
     marked = sym (mark ∙ ap (λ (i : ℕ). solved (cellOf (cellsOf s′) i)) at)
 
-    pub settled : b ≡ true → price < 1000000000 → Finished t s s′ (record { outcome = Settled; price = price; passes = w .begun; raises = w .raises }) budget
+    pub settled : b ≡ true → price < 1000000000 → Finished s s′ (record { outcome = Settled; price = price; passes = w .begun; raises = w .raises }) budget
     unfolding outcomeOf ceiling
     settled e lt = finished-with Settled price value (rw (marked, e, ← value, lt-ltb price 1000000000 lt))
 
-    pub over : b ≡ true → 1000000000 ≤ price → Finished t s s′ (record { outcome = Over; price = price; passes = w .begun; raises = w .raises }) budget
+    pub over : b ≡ true → 1000000000 ≤ price → Finished s s′ (record { outcome = Over; price = price; passes = w .begun; raises = w .raises }) budget
     unfolding outcomeOf ceiling
     over e le = finished-with Over price value (rw (marked, e, ← value, le-ltb price 1000000000 le))
 
-    pub stopped : b ≡ false → Finished t s s′ (record { outcome = Stopped; price = price; passes = w .begun; raises = w .raises }) budget
+    pub stopped : b ≡ false → Finished s s′ (record { outcome = Stopped; price = price; passes = w .begun; raises = w .raises }) budget
     unfolding outcomeOf
     stopped e = finished-with Stopped price value (rw (marked, e))
 
@@ -115,7 +104,7 @@ module _ (s t : List ℕ) (budget : ℕ) where
   unfolding answerTo bytesAfter tableAfter onRefusal
   refused-call k e r a t′ last = rw e (a, (refl, last))
 
-  worked-call : refusal s (length t) budget ≡ 0 → (s′ t′ : List ℕ) (r : Answer) → Finished t′ s s′ r budget → t′ ≡ indexTable (problemOf s) (length t) → Solved s t budget r s′ t′
+  worked-call : refusal s (length t) budget ≡ 0 → (s′ t′ : List ℕ) (r : Answer) → Finished s s′ r budget → t′ ≡ indexTable (problemOf s) (length t) → Solved s t budget r s′ t′
   unfolding answerTo bytesAfter tableAfter onRefusal
   worked-call e s′ t′ r f last = rw e (f .said, (f .bytes, last))
 
@@ -165,18 +154,19 @@ module _ (s t : List ℕ) (budget : ℕ) where
       long = ap length filled ∙ index-length (problemOf s) (length t) enough
 
       sheet : Sheet s t′ (problemOf s) (cellsOf s)
-      sheet = indexed (problemOf s) (length t) enough (stands .is) (stands .asked .shaped) filled
+      unfolding indexTable
+      sheet = indexed _ (stands .is) (stands .asked .shaped) filled
 
       pub start-within : Within s t′ (problemOf s .start)
       start-within = record { sheet = sheet; below = stands .asked .shaped .start }
 
-      pub workable : Workable s t′ (getD s 3 0)
+      pub workable : Workable s (getD s 3 0)
       workable = record { formed = asked-problem (problemOf s) (cellsOf s) (stands .asked); consistent = asked-cells (problemOf s) (cellsOf s) (stands .asked); same = kind-is s }
 
       pub no-budget : budget ≡ 0 → (r : Answer) → r ≡ refused 9 → (t″ : List ℕ) → t″ ≡ take 0 t′ ++ replicate (length t′ - 0) 0 → Solved s t budget r s t″
       unfolding question9 refusedTable
       no-budget z r a t″ last = let l : length t′ - 0 ≡ length t = omega (arith, long) in refused-call 8 (by-budget ∙ rw z) r a t″ (last ∙ rw l)
 
-      pub worked : (budget ≡ 0 → ⊥) → (s′ : List ℕ) (r : Answer) → Finished t′ s s′ r budget → Solved s t budget r s′ t′
+      pub worked : (budget ≡ 0 → ⊥) → (s′ : List ℕ) (r : Answer) → Finished s s′ r budget → Solved s t budget r s′ t′
       unfolding question9
       worked z s′ r f = worked-call (by-budget ∙ rw (le-leb 1 budget (omega arith))) s′ t′ r f filled

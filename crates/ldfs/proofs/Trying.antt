@@ -38,7 +38,7 @@ pub any-depth : {s t : List ℕ} {p : Problem} {v : Visited} {i : ℕ} (budget :
     (k : ℕ) → states p ≤ i + k → Did t p s v (visit p budget k i w)
 any-depth {p} {i} budget w wf below d k le = rw (any-fuel p budget wf k (states p) i le (omega arith) below w) d
 
-pub workable : {s t : List ℕ} {p : Problem} {kind : ℕ} → Sheet s t p (cellsOf s) → WellFormed p → Consistent p (cellsOf s) → kindOf kind ≡ p .kind → Workable s t kind
+pub workable : {s t : List ℕ} {p : Problem} {kind : ℕ} → Sheet s t p (cellsOf s) → WellFormed p → Consistent p (cellsOf s) → kindOf kind ≡ p .kind → Workable s kind
 workable h wf cs e = record { formed = rw (problem-is h) wf; consistent = rw (problem-is h) cs; same = rw (problem-is h) e }
 
 -- how a visit to f ended, by the way it says

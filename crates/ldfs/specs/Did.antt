@@ -27,7 +27,7 @@ visitOf cells Failure r = failure (search cells r)
 visitOf cells Halt r = halt (search cells r)
 
 -- what work may suppose: the problem is well formed, the cells are consistent, and the kind is the sheet's
-pub record Workable (s t : List ℕ) (kind : ℕ) : Type 0 where
+pub record Workable (s : List ℕ) (kind : ℕ) : Type 0 where
   pub formed : WellFormed (problemOf s)
   pub consistent : Consistent (problemOf s) (cellsOf s)
   pub same : kindOf kind ≡ problemOf s .kind
@@ -53,6 +53,6 @@ pub record DidPasses (t : List ℕ) (p : Problem) (s : List ℕ) (r : PassesMade
   pub said : record { begun = r .begun; ended = visitOf (cellsOf s) (r .way) (r .raises) } ≡ o
 
 -- the bytes s′ and the answer r are the work of a call on the sheet s
-pub record Finished (t s s′ : List ℕ) (r : Answer) (budget : ℕ) : Type 0 where
+pub record Finished (s s′ : List ℕ) (r : Answer) (budget : ℕ) : Type 0 where
   pub bytes : s′ ≡ write (problemOf s) (cellsAfter (work (problemOf s) (cellsOf s) budget))
   pub said : r ≡ finished (problemOf s) (work (problemOf s) (cellsOf s) budget)

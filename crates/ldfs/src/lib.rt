@@ -41,8 +41,8 @@ pub fn refusal(n: u32) -> Answer
 // stopped.
 pub fn finish(sheet: &mut [u8], table: &[u32], budget: u64) -> Answer
     requires { ⌜ Within (now sheet) (now table) (problemOf (now sheet) .start) ⌝ }
-    requires { ⌜ Workable (now sheet) (now table) (getD (now sheet) 3 0) ⌝ }
-    ensures { λ r. ⌜ Finished (now (table .entry)) (now (sheet .entry)) (now (sheet .exit)) r budget ⌝ }
+    requires { ⌜ Workable (now sheet) (getD (now sheet) 3 0) ⌝ }
+    ensures { λ r. ⌜ Finished (now (sheet .entry)) (now (sheet .exit)) r budget ⌝ }
 {
     let start = place(get16(sheet, 6));
     let kind = sheet[3];

@@ -19,7 +19,7 @@ pub struct Passes {
 // The work of one call. A pass that fails has raised something, so what is left of the budget falls.
 pub fn work(sheet: &mut [u8], table: &[u32], kind: u8, start: usize, budget: u64) -> Passes
     requires { ⌜ Within (now sheet) (now table) start ⌝ }
-    requires { ⌜ Workable (now sheet) (now table) kind ⌝ }
+    requires { ⌜ Workable (now sheet) kind ⌝ }
     requires { ⌜ start ≡ problemOf (now sheet) .start ⌝ }
     ensures { λ r. ⌜ ((p : Problem) → Sheet (now (sheet .entry)) (now (table .entry)) p (cellsOf (now (sheet .entry))) →
         DidPasses (now (table .entry)) p (now (sheet .exit)) r (worked p (cellsOf (now (sheet .entry))) budget)) ⌝ }

@@ -116,7 +116,7 @@ pub fn lesser(x: u32, y: u32) -> u32
 // The least price of a decision's actions.
 pub fn least_price(sheet: &[u8], table: &[u32], kind: u8, state: usize) -> u32
     requires { ⌜ Decision (now sheet) (now table) state ⌝ }
-    requires { ⌜ Workable (now sheet) (now table) kind ⌝ }
+    requires { ⌜ Workable (now sheet) kind ⌝ }
     ensures { λ r. ⌜ r ≡ least (q (kindOf kind) (valueOf (cellsOf (now (sheet .entry))))) (actionsOf (nodeAt (problemOf (now (sheet .entry))) state)) ⌝ }
 {
     let mut at: usize = first_action(sheet, table, state);
@@ -142,7 +142,7 @@ pub fn fail(
     budget: u64,
 ) -> Visited
     requires { ⌜ Decision (now sheet) (now table) state ⌝ }
-    requires { ⌜ Workable (now sheet) (now table) kind ⌝ }
+    requires { ⌜ Workable (now sheet) kind ⌝ }
     ensures { λ r. ⌜ ((p : Problem) → Sheet (now (sheet .entry)) (now (table .entry)) p (cellsOf (now (sheet .entry))) →
         Did (now (table .entry)) p (now (sheet .exit)) r (updated budget state (least (q (p .kind) (valueOf (cellsOf (now (sheet .entry))))) (actionsOf (nodeAt p state))) failure (search (cellsOf (now (sheet .entry))) raises))) ⌝ }
 {
@@ -172,7 +172,7 @@ pub fn visit(
     budget: u64,
 ) -> Visited
     requires { ⌜ Within (now sheet) (now table) state ⌝ }
-    requires { ⌜ Workable (now sheet) (now table) kind ⌝ }
+    requires { ⌜ Workable (now sheet) kind ⌝ }
     requires { ⌜ raises ≤ budget ⌝ }
     ensures { λ r. ⌜ ((p : Problem) → Sheet (now (sheet .entry)) (now (table .entry)) p (cellsOf (now (sheet .entry))) → (k : ℕ) → states p ≤ state + k →
         Did (now (table .entry)) p (now (sheet .exit)) r (visited p budget k state (search (cellsOf (now (sheet .entry))) raises))) ⌝ }

@@ -1,62 +1,56 @@
 -- A settled sheet can be listed, and what `list` leaves.
 use Prim.Native.Nat.{ℕ, zero, suc, _<_, _≤_}
 use mathlib.Core.Path.{_≡_, refl, ap, sym, _∙_}
-use mathlib.Core.Bool.{true}
 use mathlib.Core.List.{List}
 use native.Mathlib.Omega.{arith}
 use native.Mathlib.Nat.{zero-add}
-use borrow.Author.Tests.{leb-true, le-leb, lt-leb}
+use borrow.Author.Tests.{le-leb, lt-leb}
 use lib.ListN.{length}
 use Rattle.model.specs.declared.Answer.{Answer}
 use Rattle.model.specs.declared.Outcome.the-variants.{Settled}
-use Rattle.model.specs.Problem.{states}
 use Rattle.model.specs.Read.{problemOf, cellsOf}
-use Rattle.model.specs.Questions.{maxStates, question1, refusal, accepted}
-use Rattle.model.specs.Report.{largest, onRefusal, answerTo, bytesAfter, tableAfter}
+use Rattle.model.specs.Questions.{refusal}
+use Rattle.model.specs.Report.{largest, onRefusal, answerTo, bytesAfter, indexTable, tableAfter}
 use Rattle.layout.specs.Shape.{Bytes}
-use Rattle.sheet.proofs.Laws.{own}
+use Rattle.sheet.proofs.Laws.{own, indexed}
 use Rattle.theory.proofs.Accepted.{asked-problem, asked-cells}
 use Rattle.theory.proofs.Sheets.{Stands, accepted-stands, stands-problem, stands-cells, unrefused}
 use Rattle.theory.proofs.Called.{answer-refused, Called, call-does}
 use Rattle.ldfs.specs.Made.{Solved}
-use Rattle.ldfs.proofs.Solving.{indexed}
 use Rattle.listing.specs.declared.Listed.{Listed}
 use Rattle.listing.specs.declared.Listed.the-variants.{TooShort, Written}
 use Rattle.listing.specs.Listing.{lineOne, planOf, listing, enough, listedAs, sheetListed, tableListed, textListed}
-use Rattle.listing.specs.Put.{Wrote, Worked}
+use Rattle.listing.specs.Put.{Wrote, Listable}
 use Rattle.listing.proofs.Writing.{wrote-behind}
 
 -- a sheet and its index after a call that is not refused
 module _ (s t : List ℕ) (budget : ℕ) (bytes : Bytes s) where
-  unrefused-worked : refusal s (length t) budget ≡ 0 → Worked (bytesAfter s (length t) budget) (tableAfter s t budget)
-  unfolding question1 tableAfter onRefusal
+  unrefused-worked : refusal s (length t) budget ≡ 0 → Listable (bytesAfter s (length t) budget) (tableAfter s t budget)
+  unfolding tableAfter onRefusal indexTable
   unrefused-worked e = record {
-    sheet = own (indexed (problemOf s) (length t) long (h .is) (h .asked .shaped) (rw e));
+    sheet = own (indexed _ (h .is) (h .asked .shaped) filled);
     formed = rw (stands-problem _ _ _ h) (asked-problem _ _ (h .asked));
     consistent = rw (stands-problem _ _ _ h, stands-cells _ _ _ h) (asked-cells _ _ (h .asked));
   }
     where
-      yes : (question1 (length t) ≡ true) × (accepted s ≡ true)
-      yes = unrefused s (length t) budget e
+      filled : tableAfter s t budget ≡ indexTable (problemOf s) (length t)
+      filled = rw e
 
       called : Called s (problemOf s) (cellsOf s) (length t) budget
-      called = call-does s (problemOf s) (cellsOf s) (accepted-stands s bytes (yes .1)) (length t) budget
+      called = call-does s (problemOf s) (cellsOf s) (accepted-stands s bytes (unrefused s (length t) budget e)) (length t) budget
 
       h : Stands (bytesAfter s (length t) budget) (problemOf s) (called .next)
       h = called .stands
 
-      long : states (problemOf s) ≤ length t
-      long = omega (arith, leb-true maxStates (length t) (yes .0), h .asked .shaped .most)
-
-  settled-worked : answerTo s (length t) budget .outcome ≡ Settled → Worked (bytesAfter s (length t) budget) (tableAfter s t budget)
+  settled-worked : answerTo s (length t) budget .outcome ≡ Settled → Listable (bytesAfter s (length t) budget) (tableAfter s t budget)
   settled-worked e = go (refusal s (length t) budget) refl
     where
-      go : (n : ℕ) → refusal s (length t) budget ≡ n → Worked (bytesAfter s (length t) budget) (tableAfter s t budget)
+      go : (n : ℕ) → refusal s (length t) budget ≡ n → Listable (bytesAfter s (length t) budget) (tableAfter s t budget)
       go zero r = unrefused-worked r
       go (suc n) r = let a = answer-refused s (length t) budget n r in let z : _≡_ {A = ℕ} 0 1 = cc in absurd (omega arith)
 
   -- and as `solve` left them
-  pub solved-worked : (a : Answer) (s′ t′ : List ℕ) → Solved s t budget a s′ t′ → a .outcome ≡ Settled → Worked s′ t′
+  pub solved-worked : (a : Answer) (s′ t′ : List ℕ) → Solved s t budget a s′ t′ → a .outcome ≡ Settled → Listable s′ t′
   solved-worked a s′ t′ h e = rw (h .1 .0, h .1 .1) (settled-worked (sym (ap (λ (x : Answer). x .outcome) (h .0)) ∙ e))
 
 -- what `list` promises of its answer, of the sheet, of the table and of the buffer

@@ -1,7 +1,7 @@
 -- The stages that the plan reaches: the definition's test of them, and flags that hold it.
 use Prim.Native.Nat.{ℕ, _+_, _*_, _<_, _≤_}
 use mathlib.Core.Path.{_≡_, refl, ap, sym, _∙_}
-use mathlib.Core.Bool.{Bool, true, false, _||_}
+use mathlib.Core.Bool.{Bool, true, false, _||_, or-false}
 use mathlib.Core.List.{List, [], _∷_, _++_, append-nil}
 use native.Mathlib.Omega.{arith}
 use native.Mathlib.Numerals.{add-one}
@@ -17,7 +17,7 @@ use Rattle.sheet.specs.Sheet.{Within, Terminal, Decision}
 use Rattle.sheet.proofs.Laws.{is-terminal, is-decision, actionsAt}
 use Rattle.ldfs.proofs.Actions.{Turn, turn-is, turn-fits, turn-priced}
 use Rattle.listing.specs.Listing.{stateLine, findingsOf, findings, listed, reachedBelow, stateLines}
-use Rattle.listing.specs.Put.{Wrote, Worked, raised}
+use Rattle.listing.specs.Put.{Wrote, Listable, raised}
 use Rattle.listing.proofs.Writing.{wrote-none, wrote-length, wrote-behind}
 
 -- flags that go up one after the other
@@ -46,13 +46,9 @@ module _ (f : List Bool) (ts : List ℕ) (j m : ℕ) (count : m ≡ length ts) w
   raised-room lt g e t is below = rw (e, raised-length f (take j ts), is) (below j (omega arith))
 
 -- which flags are up then
-or-false : (b : Bool) → b ≡ (b || false)
-or-false true = refl
-or-false false = refl
-
 pub raised-at : (f : List Bool) (ts : List ℕ) (t : ℕ) → t < length f → getD (raised f ts) t false ≡ (getD f t false || listed t ts)
 unfolding raised listed
-raised-at f [] t lt = or-false (getD f t false)
+raised-at f [] t lt = sym (or-false (getD f t false))
 raised-at f (u ∷ ts) t lt = raised-at (set f u true) ts t (rw length-set lt) ∙ go (eqb t u) refl (getD f t false) refl
   where
     go : (b : Bool) → eqb t u ≡ b → (g : Bool) → getD f t false ≡ g → (getD (set f u true) t false || listed t ts) ≡ (g || (b || listed t ts))
@@ -61,12 +57,12 @@ raised-at f (u ∷ ts) t lt = raised-at (set f u true) ts t (rw length-set lt) �
     go false e true k = rw (getD-set-other f u t true false (eqb-false t u e), k)
     go false e false k = rw (getD-set-other f u t true false (eqb-false t u e), k)
 
--- a stage of a worked sheet
-pub stage : {s t : List ℕ} {i : ℕ} → Worked s t → i < states (problemOf s) → Within s t i
+-- a stage of a sheet that can be listed
+pub stage : {s t : List ℕ} {i : ℕ} → Listable s t → i < states (problemOf s) → Within s t i
 stage w lt = record { sheet = w .sheet; below = lt }
 
--- The check that is chosen at a junction of a worked sheet.
-module _ {s t : List ℕ} (w : Worked s t) {i : ℕ} (d : Decision s t i) (k : ℕ) (is : k ≡ cellOf (cellsOf s) i .chosen) where
+-- The check that is chosen at a junction of one.
+module _ {s t : List ℕ} (w : Listable s t) {i : ℕ} (d : Decision s t i) (k : ℕ) (is : k ≡ cellOf (cellsOf s) i .chosen) where
   node : nodeAt (problemOf s) i ≡ decision (actionsAt (problemOf s) i)
   node = is-decision (nodeAt (problemOf s) i) (d .tag)
 
@@ -137,7 +133,7 @@ module _ (p : Problem) (cells : List Cell) (n m : ℕ) (out₀ : List ℕ) (at :
         text = rw (add-one, not-reached, append-nil) (h .text);
         most = omega (arith, h .most);
         wide = h .wide;
-        up = λ t l. rw (add-one, not-reached) (h .up t l ∙ or-false (reachedBelow p cells s t));
+        up = λ t l. rw (add-one, not-reached) (h .up t l ∙ sym (or-false (reachedBelow p cells s t)));
       }
         where
           not-reached : reachedBelow p cells s s ≡ false

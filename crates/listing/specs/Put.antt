@@ -15,8 +15,8 @@ pub record Wrote (before after : List ℕ) (at next : ℕ) (text : List ℕ) : T
   pub bytes : after ≡ placed at text before
   pub behind : next ≡ at + length text
 
--- a sheet that has been worked
-pub record Worked (s t : List ℕ) : Type 0 where
+-- what listing a sheet supposes: it is in place, its problem well formed and its cells consistent, as work leaves them
+pub record Listable (s t : List ℕ) : Type 0 where
   pub sheet : Sheet s t (problemOf s) (cellsOf s)
   pub formed : WellFormed (problemOf s)
   pub consistent : Consistent (problemOf s) (cellsOf s)

@@ -7,7 +7,7 @@ ghost use Rattle.model.specs.Problem.{states};
 ghost use Rattle.model.specs.Read.{problemOf, cellsOf, actionRead, actionFits};
 ghost use Rattle.model.specs.Questions.{maxStates};
 ghost use Rattle.listing.specs.Listing.{findings, reachedBelow, stateLines, planOf};
-ghost use Rattle.listing.specs.Put.{Wrote, Worked, raised};
+ghost use Rattle.listing.specs.Put.{Wrote, Listable, raised};
 ghost use Rattle.model.specs.declared.Outcome.the-variants.{Settled};
 use super::lines::put_state;
 use model::MAX_STATES;
@@ -38,7 +38,7 @@ pub fn raise(sheet: &[u8], at: usize, flags: &mut [bool])
 
 // The flags of the findings of a stage's chosen check go up.
 pub fn reach_on(sheet: &[u8], table: &[u32], flags: &mut [bool], state: usize)
-    requires { ⌜ Worked (now sheet) (now table) ⌝ }
+    requires { ⌜ Listable (now sheet) (now table) ⌝ }
     requires { ⌜ (state < states (problemOf (now sheet))) × (states (problemOf (now sheet)) ≤ length (now flags)) ⌝ }
     ensures { λ _. ⌜ now (flags .exit) ≡ raised (now (flags .entry)) (findings (problemOf (now (sheet .entry))) (cellsOf (now (sheet .entry))) state) ⌝ }
 {
@@ -59,7 +59,7 @@ pub fn put_states(
     at: usize,
     n: usize,
 ) -> usize
-    requires { ⌜ Worked (now sheet) (now table) ⌝ }
+    requires { ⌜ Listable (now sheet) (now table) ⌝ }
     requires { ⌜ (n ≡ states (problemOf (now sheet))) × (n ≤ length (now flags)) ⌝ }
     requires { ⌜ ((t : ℕ) → t < n → getD (now flags) t false ≡ reachedBelow (problemOf (now sheet)) (cellsOf (now sheet)) 0 t) ⌝ }
     requires { ⌜ at + 81 * n ≤ length (now out) ⌝ }
@@ -85,7 +85,7 @@ pub fn put_reached(
     out: &mut [u8],
     at: usize,
 ) -> usize
-    requires { ⌜ Worked (now sheet) (now table) ⌝ }
+    requires { ⌜ Listable (now sheet) (now table) ⌝ }
     requires { ⌜ now flags ≡ replicate maxStates false ⌝ }
     requires { ⌜ at + 81 * maxStates ≤ length (now out) ⌝ }
     ensures { λ r. ⌜ Wrote (now (out .entry)) (now (out .exit)) at r (stateLines (problemOf (now (sheet .entry))) (cellsOf (now (sheet .entry))) (states (problemOf (now (sheet .entry))))) ⌝ }
@@ -98,7 +98,7 @@ pub fn put_reached(
 
 // The lines that follow line one: none but when settled.
 pub fn put_plan(sheet: &[u8], table: &[u32], out: &mut [u8], at: usize, o: Outcome) -> usize
-    requires { ⌜ (o ≡ Settled → Worked (now sheet) (now table)) ⌝ }
+    requires { ⌜ (o ≡ Settled → Listable (now sheet) (now table)) ⌝ }
     requires { ⌜ at + 81 * maxStates ≤ length (now out) ⌝ }
     ensures { λ r. ⌜ Wrote (now (out .entry)) (now (out .exit)) at r (planOf o (now (sheet .entry))) ⌝ }
 {

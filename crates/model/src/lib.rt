@@ -1,13 +1,15 @@
 // The limits and types that the code and the definitions of specs/ share. There are no functions here.
 
-// Document 01's limits, which `specs/Questions.antt` has as `maxStates`, `maxBytes` and `maxCost`, and `specs/QValue.antt` as `ceiling`: the most stages of a
-// sheet, which is the fewest entries of its index table too; the most bytes of a sheet; the largest cost of a check or an ending; the largest value.
+// The most stages of a sheet, and the fewest entries of its index table: `maxStates` of `specs/Questions.antt`.
 pub const MAX_STATES: usize = 1024;
 
+// The most bytes of a sheet: `maxBytes`.
 pub const MAX_BYTES: usize = 60000;
 
+// The largest cost of a check or an ending: `maxCost`.
 pub const MAX_COST: u32 = 1000000;
 
+// The largest value: `ceiling` of `specs/QValue.antt`.
 pub const CEILING: u32 = 1000000000;
 
 // The ceiling as a number of 64 bits, which sums are compared with.

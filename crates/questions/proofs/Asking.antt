@@ -6,7 +6,7 @@ use mathlib.Core.List.{List, [], _∷_, _++_}
 use mathlib.Core.Logic.{_⊎_, inl, inr, ⊎-elim}
 use native.Mathlib.Omega.{arith}
 use borrow.Author.Tests.{le-leb, lt-leb}
-use lib.ListN.{length, getD, take, drop, replicate, length-append, length-drop, List·getD-append}
+use lib.ListN.{length, getD, take, drop, replicate, length-append, length-drop}
 use lib.Seq.{take-at}
 use Rattle.model.specs.Tests.{all, every}
 use Rattle.model.specs.Problem.{Problem, Cell, states}
@@ -15,9 +15,10 @@ use Rattle.model.specs.Read.{nodesGood, nodesRead, kindOf, problemOf, cellsOf}
 use Rattle.model.specs.Questions.{maxStates, maxBytes, question1, question2, question3, question4, question5, question6, question7, question8, Question, sheetQuestions, firstNo, sheetRefusal, none-no}
 use Rattle.model.specs.Report.{onRefusal, indexTable, refusedTable, checkedTable}
 use Rattle.layout.specs.Shape.{Bytes}
-use Rattle.layout.proofs.Same.{read-writes, read-shaped, read-count, head-says}
-use Rattle.layout.proofs.Index.{offsets-count, index-is}
+use Rattle.layout.proofs.Same.{read-writes, read-shaped, head-says}
+use Rattle.layout.proofs.Index.{states-read, offsets-count}
 use Rattle.sheet.specs.Sheet.{Sheet, Within}
+use Rattle.sheet.proofs.Laws.{indexed}
 use Rattle.questions.specs.declared.states.Question.the-variants.{Ranges, Order, Bounds, Marks}
 use Rattle.questions.specs.declared.Verdict.the-variants.{Accepted, Refused}
 use Rattle.questions.specs.Put.{passesAt, rangesAt, statesNo}
@@ -110,7 +111,7 @@ module _ (s : List ℕ) where
 
           module _ (byte : Bytes s) where
             pub states-are : n ≡ states (problemOf s)
-            states-are = count ∙ sym (read-count s byte head in-place)
+            states-are = count ∙ sym (states-read s)
 
             nodes-are : nodesRead n (drop 8 s) ≡ problemOf s .nodes
             unfolding problemOf
@@ -118,14 +119,7 @@ module _ (s : List ℕ) where
 
             -- a table that begins with the offsets makes a sheet
             pub sheet-from : (t rest : List ℕ) → t ≡ offsetsFrom 8 (nodesRead n (drop 8 s)) ++ rest → Sheet s t (problemOf s) (cellsOf s)
-            sheet-from t rest e =
-                let o = nodes-are in let l = offsets-count 8 (problemOf s .nodes) in
-                record {
-                  is = read-writes s byte head in-place;
-                  shaped = read-shaped s byte head in-place;
-                  wide = rw (e, o, length-append, l) (omega arith);
-                  table = λ i lt. rw (e, o) (List·getD-append (offsetsFrom 8 (problemOf s .nodes)) rest 0 i (rw l lt) ∙ index-is (problemOf s) i lt);
-                }
+            sheet-from t rest e = indexed rest (read-writes s byte head in-place) (read-shaped s byte head in-place) (e ∙ rw nodes-are)
 
             pub zero-within : (t rest : List ℕ) → t ≡ offsetsFrom 8 (nodesRead n (drop 8 s)) ++ rest → (0 < n) × Within s t 0
             zero-within t rest e = let some = read-shaped s byte head in-place .some in (omega (arith, states-are), record { sheet = sheet-from t rest e; below = some })
@@ -164,7 +158,7 @@ module _ (s t : List ℕ) where
     accepted-head none byte n count =
         let y = none-no 1 (sheetQuestions s) (sym is ∙ none) in
         let h = head-says s (y .1 .0) in
-        (count ∙ sym (read-count s byte (y .1 .0) (y .1 .1 .0)), omega arith, h .2)
+        (count ∙ sym (states-read s), omega arith, h .2)
 
     pub accepted-table : (n : ℕ) → n ≡ states (problemOf s) → n ≤ maxStates → (t′ t″ : List ℕ) → r ≡ 0 → t′ ≡ offsetsFrom 8 (problemOf s .nodes) ++ drop (states (problemOf s)) t →
         t″ ≡ take n t′ ++ replicate (length t′ - n) 0 → (Accepted ≡ verdict (sheetRefusal s (length t))) × (t″ ≡ checkedTable s t)

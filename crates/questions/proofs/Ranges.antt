@@ -7,7 +7,7 @@ use native.Mathlib.Omega.{arith}
 use borrow.Author.Tests.{le-leb, lt-leb, eq-eqb, ne-eqb}
 use lib.Dec.{leb, ltb, eqb}
 use lib.ListN.{length, drop}
-use Rattle.model.specs.Tests.{fork, all}
+use Rattle.model.specs.Tests.{fork, all, all-one}
 use Rattle.model.specs.Problem.{Node, terminal, decision, Cell, nodeAt, cellOf, valueOf, solved}
 use Rattle.model.specs.Format.{actionsOf, actionOffset}
 use Rattle.model.specs.Read.{actionRead, kindOf, problemOf, cellsOf}
@@ -23,11 +23,6 @@ unfolding all
 both-false true c h = rw h
 both-false false c h = refl
 
-all-last : (b : Bool) → b ≡ all (b ∷ [])
-unfolding all
-all-last true = refl
-all-last false = refl
-
 module _ (n : Node) (c : Cell) where
   pub value-out : 1000000000 < c .value → false ≡ rangesAt n c
   unfolding rangesAt cellInRange ceiling all
@@ -41,15 +36,15 @@ module _ (n : Node) (c : Cell) where
     module _ (bit : c .mark ≤ 1) where
       cell-is : cellInRange n c ≡ chosenInRange n c
       unfolding cellInRange ceiling all
-      cell-is = rw (le-leb (c .value) 1000000000 low, le-leb (c .mark) 1 bit) (sym (all-last (chosenInRange n c)))
+      cell-is = rw (le-leb (c .value) 1000000000 low, le-leb (c .mark) 1 bit) (all-one (chosenInRange n c))
 
       pub terminal-range : (cost : ℕ) → n ≡ terminal cost → leb cost maxCost ≡ rangesAt n c
       unfolding rangesAt costsInRange chosenInRange all
       terminal-range cost e = rw (cell-is, e) (last (leb cost maxCost))
         where
           last : (b : Bool) → b ≡ all (b ∷ true ∷ [])
-          last true = all-last true
-          last false = all-last false
+          last true = sym (all-one true)
+          last false = sym (all-one false)
 
       module _ (few : 0 < length (actionsOf n)) (m : ℕ) (count : m ≡ countInRange n) where
         by-count : (b : Bool) → costsInRange n ≡ b → m ≡ fork b (λ _. length (actionsOf n)) (λ _. 0)
@@ -72,7 +67,7 @@ module _ (n : Node) (c : Cell) where
             at-decision = ap (λ (x : Node). chosenInRange x c) node
 
             go : (b : Bool) → costsInRange n ≡ b → fork (solved c) (λ _. ltb (c .chosen) m) (λ _. eqb (c .chosen) 0) ≡ rangesAt n c
-            go true e = rw (e, cell-is, by-count true e) (sym at-decision ∙ all-last (chosenInRange n c))
+            go true e = rw (e, cell-is, by-count true e) (sym at-decision ∙ sym (all-one (chosenInRange n c)))
             go false e = absurd (some (by-count false e))
 
         module _ (node : n ≡ decision (actionsOf n)) (some : m ≡ 0 → ⊥) (k : ℕ) (is : k ≡ c .chosen) where
@@ -105,7 +100,7 @@ module _ {s t : List ℕ} {i : ℕ} (d : Decision s t i) (ex : ChosenExists (pro
 
       pub earned-decision : value ≡ price → (b : Bool) → b ≡ allSolved (cellsOf s) (actionRead (drop o s) .successors) → b ≡ markEarned (problemOf s) (cellsOf s) i (nodeAt (problemOf s) i)
       unfolding all
-      earned-decision e b be = be ∙ sym (passed ∙ rw (eq-eqb value price e) (sym (all-last _)))
+      earned-decision e b be = be ∙ sym (passed ∙ rw (eq-eqb value price e) (all-one _))
 
       pub unearned : (value ≡ price → ⊥) → false ≡ markEarned (problemOf s) (cellsOf s) i (nodeAt (problemOf s) i)
       unfolding all

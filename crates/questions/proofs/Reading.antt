@@ -11,17 +11,12 @@ use lib.Dec.{eqb, leb, ltb}
 use borrow.Author.Tests.{eq-eqb, ne-eqb, eqb-true, eqb-false, leb-true, leb-false, le-leb, lt-leb}
 use lib.ListN.{length, getD, set, drop, take, replicate, length-drop, length-set, take-append-drop, replicate-append-replicate}
 use lib.Seq.{take-all, drop-drop, take-suc-set, drop-set-lt}
-use Rattle.model.specs.Tests.{also, all, all-true}
+use Rattle.model.specs.Tests.{also, all, all-true, all-one}
 use Rattle.model.specs.Format.{be16, actionsSize, nodeSize, offsetsFrom}
 use Rattle.model.specs.Read.{actionFits, actionsGood, actionsRead, actionsLong, terminalFits, headerFits, decisionFits, nodesGood, nodesRead}
 use Rattle.layout.proofs.Bytes.{getD-from, be16-from}
 use Rattle.model.specs.Questions.{maxStates, question3}
 use Rattle.layout.proofs.Index.{actions-size}
-
-all-last : (b : Bool) → all (b ∷ []) ≡ b
-unfolding all
-all-last true = refl
-all-last false = refl
 
 -- a test on a place and on what is left
 leb-left : (a k n : ℕ) → a ≤ n → leb (a + k) n ≡ leb k (n - a)
@@ -44,7 +39,7 @@ module _ (s : List ℕ) (o n : ℕ) (le : o ≤ length s) (is : n ≡ be16 s (o 
 
   pub terminal-yes : n ≡ 9 → leb (o + 12) (length s) ≡ terminalFits (drop o s)
   unfolding terminalFits all
-  terminal-yes e = rw (here, e, length-drop o s) (leb-left o 12 (length s) le ∙ sym (all-last _))
+  terminal-yes e = rw (here, e, length-drop o s) (leb-left o 12 (length s) le ∙ sym (all-one _))
 
   pub terminal-no : (n ≡ 9 → ⊥) → false ≡ terminalFits (drop o s)
   unfolding terminalFits all
@@ -53,7 +48,7 @@ module _ (s : List ℕ) (o n : ℕ) (le : o ≤ length s) (is : n ≡ be16 s (o 
   pub header-yes : getD s o 0 ≡ 3 → n ≡ 6 → o + 9 ≤ length s → (b : ℕ) → b ≡ getD s (o + 9) 0 → eqb b 4 ≡ headerFits (drop o s)
   unfolding headerFits all
   header-yes t e l b be =
-      rw (← getD-from s o, t, here, e, length-drop o s, le-leb 9 (length s - o) (omega arith), drop-drop 9 o s, ← getD-from s (o + 9), ← be) (sym (all-last _))
+      rw (← getD-from s o, t, here, e, length-drop o s, le-leb 9 (length s - o) (omega arith), drop-drop 9 o s, ← getD-from s (o + 9), ← be) (sym (all-one _))
 
   pub header-short : getD s o 0 ≡ 3 → n ≡ 6 → length s < o + 9 → false ≡ headerFits (drop o s)
   unfolding headerFits all
@@ -78,7 +73,7 @@ module _ (s : List ℕ) (o n : ℕ) (le : o ≤ length s) (is : n ≡ be16 s (o 
   pub action-even : 6 ≤ n → n ≤ 36 → n % 2 ≡ 0 → leb (o + 3 + n) (length s) ≡ actionFits (drop o s)
   unfolding actionFits all
   action-even a b e =
-      rw (here, le-leb 6 n a, le-leb n 36 b, e, length-drop o s, add-assoc o 3 n) (leb-left o (3 + n) (length s) le ∙ sym (all-last _))
+      rw (here, le-leb 6 n a, le-leb n 36 b, e, length-drop o s, add-assoc o 3 n) (leb-left o (3 + n) (length s) le ∙ sym (all-one _))
 
 pub header-tag : (s : List ℕ) (o : ℕ) → (getD s o 0 ≡ 3 → ⊥) → false ≡ headerFits (drop o s)
 unfolding headerFits all
@@ -305,4 +300,4 @@ module _ (s : List ℕ) (le : 8 ≤ length s) where
 
           pub head-start : be16 s 4 ≤ maxStates → ltb (be16 s 6) (be16 s 4) ≡ question3 s
           unfolding question3 all
-          head-start h = rw (eq-eqb (getD s 0 0) 1 one, eq-eqb (be16 s 1) 5 five, le-leb 8 (length s) le, le-leb (getD s 3 0) 1 kind, le-leb 1 (be16 s 4) some, le-leb (be16 s 4) maxStates h) (sym (all-last _))
+          head-start h = rw (eq-eqb (getD s 0 0) 1 one, eq-eqb (be16 s 1) 5 five, le-leb 8 (length s) le, le-leb (getD s 3 0) 1 kind, le-leb 1 (be16 s 4) some, le-leb (be16 s 4) maxStates h) (sym (all-one _))

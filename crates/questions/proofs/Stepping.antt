@@ -1,20 +1,21 @@
 -- A test of every state, of every action of a decision or of every successor of an action, one at a time.
-use Prim.Native.Nat.{ℕ, zero, suc, _+_, _*_, _<_, _≤_}
+use Prim.Native.Nat.{ℕ, _+_, _*_, _<_, _≤_}
 use mathlib.Core.Path.{_≡_, sym, _∙_}
 use mathlib.Core.Bool.{Bool, true, false}
 use mathlib.Core.List.{List, [], _∷_}
 use native.Mathlib.Omega.{arith}
 use native.Mathlib.Numerals.{add-one}
-use borrow.Author.Tests.{le-leb, lt-leb, lt-ltb, le-ltb, ltb-true, eqb-true, eqb-false}
+use borrow.Author.Tests.{le-leb, lt-leb, lt-ltb, le-ltb, eqb-true, eqb-false}
 use lib.Dec.{leb, eqb}
 use lib.ListN.{length, getD, drop, drop-of-length-le}
 use lib.Seq.{drop-cons}
-use Rattle.model.specs.Tests.{also, all, every, also-true, true-also, all-true, every-true, every-false}
+use Rattle.model.specs.Tests.{also, all, every, true-also, every-true, every-false}
 use Rattle.model.specs.Problem.{decision, Problem, Cell, states, nodeAt, actionAt, cellOf, valueOf, solved}
 use Rattle.model.specs.Format.{terminalTag, decisionTag, actionTag, tagOf, actionsOf, actionOffset}
 use Rattle.model.specs.Read.{actionFits, actionRead, kindOf, problemOf, cellsOf}
 use Rattle.model.specs.QValue.{q}
 use Rattle.model.specs.Questions.{maxCost, costsInRange, ascending, successorsInOrder, question6, valueUnder, allSolved, passedBy, markEarned}
+use Rattle.layout.proofs.Shapes.{member, ascending-in}
 use Rattle.sheet.specs.Sheet.{Sheet, Within, Terminal, Decision, Priced, costOf}
 use Rattle.sheet.proofs.Laws.{actionsAt, not-terminal, is-terminal, is-decision, few-actions, action-stands, action-ends, action-is, action-in-place, action-priced, action-after}
 use Rattle.questions.specs.Put.{countInRange, Ordered}
@@ -111,16 +112,10 @@ unfolding all
 cost-fits c g h = rw (le-leb 1 c g, le-leb c maxCost h)
 
 -- question 6 gives that successors are states
-ascending-below : (low n : ℕ) (ts : List ℕ) → ascending low n ts ≡ true → (j : ℕ) → j < length ts → getD ts j 0 < n
-unfolding ascending
-ascending-below low n [] h j lt = absurd (omega arith)
-ascending-below low n (t ∷ ts) h zero lt = ltb-true _ _ (all-true _ (also-true _ _ h .0) .1 .0)
-ascending-below low n (t ∷ ts) h (suc j) lt = ascending-below t n ts (also-true _ _ h .1) j (omega arith)
-
 below : (p : Problem) (s : ℕ) → s < states p → tagOf (nodeAt p s) ≡ decisionTag → question6 p ≡ true → (k : ℕ) → k < length (actionsAt p s) →
     (j : ℕ) → j < length (actionAt (actionsAt p s) k .successors) → getD (actionAt (actionsAt p s) k .successors) j 0 < states p
 unfolding question6
-below p s lt tag h k lk j lj = ascending-below s (states p) _ (every-true _ _ (sym (order-is p s tag (states p)) ∙ every-true (states p) _ h s lt) k lk) j lj
+below p s lt tag h k lk j lj = ascending-in s (states p) _ (every-true _ _ (sym (order-is p s tag (states p)) ∙ every-true (states p) _ h s lt) k lk) _ (member _ j lj) .1
 
 -- A loop over the actions of decision i: action k stands at o.
 pub record Along (s : List ℕ) (i k o : ℕ) : Type 0 where

@@ -2,17 +2,18 @@
 use Prim.Native.Nat.{ℕ, _+_, _*_, _<_, _≤_}
 use mathlib.Core.Path.{_≡_, refl, ap, _∙_, sym}
 use mathlib.Core.Bool.{Bool, true, false}
-use mathlib.Core.List.{List}
+use mathlib.Core.List.{List, _++_}
 use native.Mathlib.Omega.{arith}
 use native.Mathlib.Numerals.{add-one}
 use borrow.Author.Tests.{eqb-true, eqb-false}
 use lib.Dec.{eqb}
-use lib.ListN.{length, getD, set, drop, length-set}
+use lib.ListN.{length, getD, set, drop, length-set, length-append, List·getD-append}
 use lib.Seq.{getD-set-same, getD-set-other, set-set}
 use Rattle.model.specs.Problem.{Action, Node, terminal, decision, Problem, Cell, cell, states, nodeAt, actionAt, cellOf, setValue, setSolved}
-use Rattle.model.specs.Format.{be32, put32, terminalTag, decisionTag, actionTag, write, nodeSize, actionPlace, tagOf, valueIn, valueOffset, actionsOf, actionOffset}
+use Rattle.model.specs.Format.{be32, put32, terminalTag, decisionTag, actionTag, write, nodeSize, actionPlace, tagOf, valueIn, valueOffset, actionsOf, actionOffset, offsetsFrom}
 use Rattle.model.specs.Read.{actionFits, actionRead, problemOf, cellsOf}
 use Rattle.layout.specs.Shape.{Few, NodeShaped, ChosenShaped, Shaped, setMark, setChosen}
+use Rattle.layout.proofs.Index.{offsets-count, index-is}
 use Rattle.layout.proofs.Places.{write-length}
 use Rattle.layout.proofs.Shapes.{node-shaped, action-shaped}
 use Rattle.layout.proofs.Fields.{state-room, value-room, tag-at, value-at, mark-at, value-stored, mark-stored, cost-at, chosen-at, chosen-stored, action-tag-at, action-next, after-last}
@@ -76,6 +77,15 @@ shaped-set {p} {cells} h i c lt ch = record {
 pub action-inside : (s : List ℕ) (o : ℕ) → actionFits (drop o s) ≡ true →
     (length (actionRead (drop o s) .successors) ≤ 16) × (o + 7 + 2 * length (actionRead (drop o s) .successors) ≤ length s)
 action-inside s o fits = omega (arith, content-of s o fits, count-of s o fits)
+
+-- a table that begins with the offsets makes a sheet of what is written
+pub indexed : {s t : List ℕ} {p : Problem} {cells : List Cell} (rest : List ℕ) → s ≡ write p cells → Shaped p cells → t ≡ offsetsFrom 8 (p .nodes) ++ rest → Sheet s t p cells
+indexed {p} rest is shaped e = record {
+  is = is;
+  shaped = shaped;
+  wide = rw (e, length-append, offsets-count 8 (p .nodes)) (omega arith);
+  table = λ i lt. rw e (List·getD-append (offsetsFrom 8 (p .nodes)) rest 0 i (rw (offsets-count 8 (p .nodes)) lt) ∙ index-is p i lt);
+}
 
 -- The problem and the cells of a sheet are those that its bytes say.
 module _ {s t : List ℕ} {p : Problem} {cells : List Cell} (h : Sheet s t p cells) where

@@ -6,29 +6,17 @@ use mathlib.Core.Logic.{_⊎_, inl, inr}
 use mathlib.Core.List.{List, [], _∷_}
 use native.Mathlib.Omega.{arith}
 use borrow.Author.Tests.{ltb-true, leb-true, eqb-true, lt-ltb, le-leb, eq-eqb}
-use lib.Dec.{ltb, leb}
+use lib.Dec.{leb}
 use lib.ListN.{length, List·getD-eq-default}
-use Rattle.model.specs.Tests.{fork, all, also-true, true-also, all-true, true-all, every-true, true-every}
+use Rattle.model.specs.Tests.{fork, also-true, true-also, all-true, true-all, every-true, true-every}
 use Rattle.model.specs.Problem.{Action, action, Node, terminal, decision, Problem, Cell, cell, states, nodeAt, actionAt, cellOf, solved, _∈_, here, there}
 use Rattle.model.specs.QValue.{ceiling}
-use Rattle.model.specs.Questions.{maxCost, costsInRange, chosenInRange, cellInRange, question5, ascending, successorsInOrder, question6, valueUnder, question7, allSolved, passedBy, markEarned, question8}
-use Rattle.layout.proofs.Shapes.{node-shaped}
+use Rattle.model.specs.Questions.{maxCost, costsInRange, chosenInRange, cellInRange, question5, successorsInOrder, question6, valueUnder, question7, allSolved, passedBy, markEarned, question8}
+use Rattle.layout.proofs.Shapes.{node-shaped, ascending-in}
 use Rattle.layout.specs.Shape.{NodeShaped, ChosenShaped}
 use Rattle.theory.specs.Consistent.{WellFormed, Sound, Consistent}
 use Rattle.theory.specs.Asked.{Asked}
 use Rattle.theory.proofs.Basics.{clash, lt-or-le}
-
-ascending-in : (low n : ℕ) (ts : List ℕ) → ascending low n ts ≡ true → (t : ℕ) → t ∈ ts → (low < t) × (t < n)
-unfolding ascending
-ascending-in low n [] h t m = absurd (elim m [ ])
-ascending-in low n (u ∷ ts) h t m = go t m (ascending-in u n ts (g .1))
-  where
-    g : (all (ltb low u ∷ ltb u n ∷ []) ≡ true) × (ascending u n ts ≡ true)
-    g = also-true _ _ h
-
-    go : (t : ℕ) → t ∈ (u ∷ ts) → ((t : ℕ) → t ∈ ts → (u < t) × (t < n)) → (low < t) × (t < n)
-    go t here ih = let e = all-true _ (g .0) in (ltb-true _ _ (e .0), ltb-true _ _ (e .1 .0))
-    go t (there m) ih = let e = all-true _ (g .0) in (omega (arith, ltb-true low u (e .0), ih t m), ih t m .1)
 
 all-solved : (cells : List Cell) (ts : List ℕ) → allSolved cells ts ≡ true → (t : ℕ) → t ∈ ts → solved (cellOf cells t) ≡ true
 unfolding allSolved

@@ -11,10 +11,9 @@ use lib.ListN.{length, getD, replicate, List·getD-eq-default}
 use Rattle.model.specs.Tests.{every, every-true}
 use Rattle.model.specs.Problem.{valueOf}
 use Rattle.model.specs.Read.{problemOf, cellsOf}
-use Rattle.model.specs.Report.{computing, numbers}
+use Rattle.model.specs.Report.{computing, numbers, largest}
 use Rattle.model.specs.Calls.{Call, afterAll, answers}
 use Rattle.model.specs.Demand3.{Accepted, Best, Demand3}
-use Rattle.model.specs.Report.{largest}
 use Rattle.model.specs.Rows.{sheetA}
 use Rattle.layout.specs.Shape.{Bytes}
 use Rattle.theory.proofs.Basics.{lt-or-le}

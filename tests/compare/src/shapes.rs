@@ -70,19 +70,20 @@ fn tiny(rng: &mut Rng) -> Draft {
 }
 
 fn small(rng: &mut Rng) -> Draft {
-    let costs = rng.pick(&[Costs::Ties, Costs::Small, Costs::Steps, Costs::Wide, Costs::Top]);
-    let states = rng.between(4, 40);
-    let reach = rng.between(2, 40);
-    let decisions = rng.between(3, 7);
-    random(rng, Spec { states, decisions, actions: 4, successors: 4, reach, costs })
+    sized(rng, 4, 40, 2, 4)
 }
 
 fn medium(rng: &mut Rng) -> Draft {
+    sized(rng, 40, 250, 3, 5)
+}
+
+/// `least` to `most` stages, with at most `width` checks and findings; `near` is the smallest reach.
+fn sized(rng: &mut Rng, least: usize, most: usize, near: usize, width: usize) -> Draft {
     let costs = rng.pick(&[Costs::Ties, Costs::Small, Costs::Steps, Costs::Wide, Costs::Top]);
-    let states = rng.between(40, 250);
-    let reach = rng.between(3, 250);
+    let states = rng.between(least, most);
+    let reach = rng.between(near, most);
     let decisions = rng.between(3, 7);
-    random(rng, Spec { states, decisions, actions: 5, successors: 5, reach, costs })
+    random(rng, Spec { states, decisions, actions: width, successors: width, reach, costs })
 }
 
 /// One junction with 16 checks, one check with 16 findings, others up to that.
