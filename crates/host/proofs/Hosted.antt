@@ -11,11 +11,12 @@ use Rattle.model.specs.Tests.{all-true}
 use Rattle.model.specs.Problem.{states}
 use Rattle.model.specs.Format.{offsetsFrom}
 use Rattle.model.specs.Read.{problemOf}
-use Rattle.model.specs.Questions.{maxStates, question1, question3, question9, sheetQuestions, firstNo, refusal, none-no}
+use Rattle.model.specs.Questions.{maxStates, question1, question3, questions, firstNo, refusal, none-no}
 use Rattle.model.specs.Report.{number, refused, onRefusal, answerTo, bytesAfter, indexTable, refusedTable, tableAfter}
 use Rattle.ldfs.specs.Made.{Solved}
 use Rattle.layout.proofs.Index.{states-read, offsets-count}
 use Rattle.host.specs.Host.{le64, entryBytes, lengthened, entries, hostNumber, hostSheet, hostTable, hostResult}
+use Rattle.host.specs.HostCalls.{Hosted}
 
 -- a list filled up with zeros
 filled-none : (n : ℕ) → lengthened [] n ≡ replicate n 0
@@ -50,7 +51,7 @@ cleared n (suc zero) = refl
 cleared n (suc (suc k)) = rw length-replicate
 
 module _ (s : List ℕ) (budget : ℕ) where
-  refused-short : (n : ℕ) → n < maxStates → refusal s n budget ≡ 1
+  pub refused-short : (n : ℕ) → n < maxStates → refusal s n budget ≡ 1
   unfolding refusal firstNo question1
   refused-short n h = rw (lt-leb maxStates n h)
 
@@ -70,8 +71,7 @@ module _ (s : List ℕ) (budget : ℕ) where
     few-states : refusal s m budget ≡ 0 → states (problemOf s) ≤ m
     unfolding refusal
     few-states e =
-        let y = none-no 0 ((λ _. question1 m) ∷ sheetQuestions s ++ ((λ _. question9 budget) ∷ [])) e in
-        omega (arith, few-stages s (y .1 .1 .0))
+        omega (arith, few-stages s (none-no 0 (questions s m budget) e .1 .1 .0))
 
     same-table : tableAfter s (replicate n 0) budget ≡ lengthened (tableAfter s (replicate m 0) budget) n
     unfolding tableAfter onRefusal indexTable
@@ -80,10 +80,6 @@ module _ (s : List ℕ) (budget : ℕ) where
         go : (k : ℕ) → refusal s m budget ≡ k → onRefusal k (λ _. indexTable (problemOf s) n) (refusedTable (replicate n 0)) ≡ lengthened (onRefusal k (λ _. indexTable (problemOf s) m) (refusedTable (replicate m 0))) n
         go zero e = let h : length (offsetsFrom 8 (problemOf s .nodes)) ≡ states (problemOf s) = offsets-count 8 (problemOf s .nodes) in rw (← h) (filled-index (offsetsFrom 8 (problemOf s .nodes)) m n (rw h (few-states e)) le)
         go (suc k) e = rw (cleared n (suc k), cleared m (suc k)) (filled-zeros m n le)
-
--- what `ldfs_solve` promises of the number, of the sheet, of the table and of the result
-abbrev pub Hosted : List ℕ → List ℕ → ℕ → List ℕ → ℕ → List ℕ → List ℕ → List ℕ → Type 0
-Hosted s t budget r k s′ t′ r′ = (k ≡ hostNumber s t budget r) × ((s′ ≡ hostSheet s t budget r) × ((t′ ≡ hostTable s t budget r) × (r′ ≡ hostResult s t budget r)))
 
 -- what `put_answer` leaves
 abbrev Told : List ℕ → Answer → List ℕ
@@ -95,7 +91,7 @@ module _ (s t : List ℕ) (budget : ℕ) (r : List ℕ) where
   no-room h = rw (lt-leb 24 (length r) h) (refl, (refl, (refl, refl)))
 
   module _ (room : 24 ≤ length r) (a : Answer) (r′ : List ℕ) (told : r′ ≡ Told r a) where
-    pub short-table : length t < 4096 → a ≡ refused 1 → Hosted s t budget r 1 s t r′
+    pub short-table : length t < 4096 → a ≡ refused budget 1 → Hosted s t budget r 1 s t r′
     unfolding hostNumber hostSheet hostTable hostResult answerTo bytesAfter onRefusal
     short-table h e =
         let few : entries t < maxStates = omega arith in let no : refusal s (entries t) budget ≡ 1 = refused-short s budget (entries t) few in

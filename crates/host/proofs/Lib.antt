@@ -1,2 +1,4 @@
 pub mod Bytes
 pub mod Hosted
+pub mod Promises
+pub mod Example

@@ -16,14 +16,14 @@ use model::Outcome;
 const TABLE_BYTES: usize = 4 * MAX_STATES;
 
 // The low eight bits of a number.
-pub fn low(x: u64) -> u8
+fn low(x: u64) -> u8
     ensures { λ r. ⌜ r ≡ x % 256 ⌝ }
 {
     (x % 256) as u8
 }
 
 // Four bytes of a slice become a number, least significant first.
-pub fn put32(s: &mut [u8], at: usize, x: u64)
+fn put32(s: &mut [u8], at: usize, x: u64)
     requires { ⌜ (at + 4 ≤ length (now s)) × (x < 4294967296) ⌝ }
     ensures { λ _. ⌜ now (s .exit) ≡ placed at (le32 x) (now (s .entry)) ⌝ }
 {
@@ -34,7 +34,7 @@ pub fn put32(s: &mut [u8], at: usize, x: u64)
 }
 
 // Eight bytes of a slice become a number, least significant first.
-pub fn put64(s: &mut [u8], at: usize, x: u64)
+fn put64(s: &mut [u8], at: usize, x: u64)
     requires { ⌜ at + 8 ≤ length (now s) ⌝ }
     ensures { λ _. ⌜ now (s .exit) ≡ placed at (le64 x) (now (s .entry)) ⌝ }
 {
@@ -43,7 +43,7 @@ pub fn put64(s: &mut [u8], at: usize, x: u64)
 }
 
 // Price, passes and raises become the first 24 bytes of the result.
-pub fn put_answer(result: &mut [u8], a: Answer)
+fn put_answer(result: &mut [u8], a: Answer)
     requires { ⌜ 24 ≤ length (now result) ⌝ }
     ensures { λ _. ⌜ now (result .exit) ≡ placed 0 (le64 (a .price) ++ (le64 (a .passes) ++ le64 (a .raises))) (now (result .entry)) ⌝ }
 {
@@ -53,14 +53,14 @@ pub fn put_answer(result: &mut [u8], a: Answer)
 }
 
 // Entry i of the index table, 0 past its end.
-pub fn entry(table: &[u32], i: usize) -> u64
+fn entry(table: &[u32], i: usize) -> u64
     ensures { λ r. ⌜ (r ≡ getD (now (table .entry)) i 0) × (r < 4294967296) ⌝ }
 {
     if i < table.len() { table[i] as u64 } else { 0 }
 }
 
 // The entries of the index table as bytes, as far as whole entries go.
-pub fn put_table(bytes: &mut [u8], table: &[u32; MAX_STATES])
+fn put_table(bytes: &mut [u8], table: &[u32; MAX_STATES])
     ensures { λ _. ⌜ now (bytes .exit) ≡ entryBytes (lengthened (now (table .entry)) (entries (now (bytes .entry)))) ++ drop (4 * entries (now (bytes .entry))) (now (bytes .entry)) ⌝ }
 {
     let n = bytes.len() / 4;
@@ -72,7 +72,7 @@ pub fn put_table(bytes: &mut [u8], table: &[u32; MAX_STATES])
 }
 
 // The number of an outcome.
-pub fn outcome_number(o: Outcome) -> u32
+fn outcome_number(o: Outcome) -> u32
     ensures { λ r. ⌜ r ≡ number o ⌝ }
 {
     match o {
@@ -100,7 +100,7 @@ pub extern "C" fn ldfs_solve(
         return 1;
     }
     if table.len() < TABLE_BYTES {
-        put_answer(result, refusal(1));
+        put_answer(result, refusal(1, budget));
         return 1;
     }
     let mut index = [0u32; MAX_STATES];

@@ -11,10 +11,11 @@ use lib.ListN.{length, getD, drop, length-drop, drop-of-length-le}
 use lib.Seq.{drop-drop, drop-cons, getD-drop}
 use Rattle.model.specs.Tests.{also-true, all-true}
 use Rattle.model.specs.Problem.{Node, terminal, decision, Cell, cell, cellOf}
-use Rattle.model.specs.Format.{be16, be32, headTag, terminalTag, decisionTag, actionTag, headLength, terminalLength, decisionLength, successorsBytes, actionBytes, actionsBytes, nodeBytes, nodesBytes, kindByte, write}
+use Rattle.model.specs.Format.{Bytes, be16, be32, headTag, terminalTag, decisionTag, actionTag, headLength, terminalLength}
+use Rattle.model.specs.Format.{decisionLength, successorsBytes, actionBytes, actionsBytes, nodeBytes, nodesBytes, kindByte, write}
 use Rattle.model.specs.Read.{maxActions, tag, actionFits, successorsRead, actionRead, actionsGood, actionsRead, actionsLong, pastActions, terminalFits, headerFits, decisionFits, nodesGood, nodesRead, cellsRead, kindOf, problemOf, cellsOf}
 use Rattle.model.specs.Questions.{maxStates, question3, question4}
-use Rattle.layout.specs.Shape.{Bytes, Few, ActionsShaped, NodeShaped, NodesShaped, ChosenShaped, Shaped}
+use Rattle.layout.specs.Shape.{Few, ActionsShaped, NodeShaped, NodesShaped, ChosenShaped, Shaped}
 
 bytes-drop : (k : ℕ) (bs : List ℕ) → Bytes bs → Bytes (drop k bs)
 bytes-drop k bs byte i = rw getD-drop (byte (k + i))

@@ -11,13 +11,12 @@ use Rattle.model.specs.declared.Outcome.{Outcome}
 use Rattle.model.specs.declared.Outcome.the-variants.{Settled, Over, Stopped}
 use Rattle.model.specs.Tests.{fork}
 use Rattle.model.specs.Problem.{Problem, Cell, states, cellOf, valueOf, solved}
-use Rattle.model.specs.Format.{be16, offset, write}
+use Rattle.model.specs.Format.{Bytes, be16, offset, write}
 use Rattle.model.specs.Read.{problemOf, cellsOf}
 use Rattle.model.specs.QValue.{ceiling}
 use Rattle.model.specs.Questions.{maxStates, question1, question9, Question, sheetQuestions, firstNo, sheetRefusal, refusal, accepted, AllYes, none-no, all-yes}
 use Rattle.model.specs.Ldfs.{Search, searchOf, work}
 use Rattle.model.specs.Report.{outcomeOf, cellsAfter, raisesOf, refused, onRefusal, answerTo, bytesAfter, indexTable, refusedTable, checkedTable, tableAfter}
-use Rattle.layout.specs.Shape.{Bytes}
 use Rattle.layout.proofs.Index.{offsets-count}
 use Rattle.theory.proofs.Accepted.{asked-problem, asked-cells}
 use Rattle.theory.proofs.Sheets.{Stands, accepted-stands, refusals-left}
@@ -61,8 +60,11 @@ module _ (s : List ℕ) (budget : ℕ) {t s′ : List ℕ} {w : PassesMade} (d :
   begun-made : work (problemOf s) (cellsOf s) budget .begun ≡ w .begun
   begun-made = rw (← d .said)
 
+  abbrev answered : Outcome → ℕ → Answer
+  answered o price = record { outcome = o; price = price; passes = w .begun; raises = w .raises; budget = budget }
+
   finished-with : (o : Outcome) (price : ℕ) → price ≡ valueOf (cellsOf s′) (problemOf s .start) → outcomeOf (cellOf (cellsOf s′) (problemOf s .start)) ≡ o →
-      Finished s s′ (record { outcome = o; price = price; passes = w .begun; raises = w .raises }) budget
+      Finished s s′ (answered o price) budget
   finished-with o price v e = record {
     bytes = d .sheet .is ∙ ap (write (problemOf s)) (sym cells-left);
     said = rw (cells-left, begun-made, raises-made, e, v);
@@ -76,15 +78,15 @@ module _ (s : List ℕ) (budget : ℕ) {t s′ : List ℕ} {w : PassesMade} (d :
     marked : solved (cellOf (cellsOf s′) (problemOf s .start)) ≡ b
     marked = sym (mark ∙ ap (λ (i : ℕ). solved (cellOf (cellsOf s′) i)) at)
 
-    pub settled : b ≡ true → price < 1000000000 → Finished s s′ (record { outcome = Settled; price = price; passes = w .begun; raises = w .raises }) budget
+    pub settled : b ≡ true → price < 1000000000 → Finished s s′ (answered Settled price) budget
     unfolding outcomeOf ceiling
     settled e lt = finished-with Settled price value (rw (marked, e, ← value, lt-ltb price 1000000000 lt))
 
-    pub over : b ≡ true → 1000000000 ≤ price → Finished s s′ (record { outcome = Over; price = price; passes = w .begun; raises = w .raises }) budget
+    pub over : b ≡ true → 1000000000 ≤ price → Finished s s′ (answered Over price) budget
     unfolding outcomeOf ceiling
     over e le = finished-with Over price value (rw (marked, e, ← value, le-ltb price 1000000000 le))
 
-    pub stopped : b ≡ false → Finished s s′ (record { outcome = Stopped; price = price; passes = w .begun; raises = w .raises }) budget
+    pub stopped : b ≡ false → Finished s s′ (answered Stopped price) budget
     unfolding outcomeOf
     stopped e = finished-with Stopped price value (rw (marked, e))
 
@@ -100,7 +102,8 @@ refused-more n (ask ∷ asked) more k h = go (ask tt) refl (refused-more (suc n)
 
 module _ (s t : List ℕ) (budget : ℕ) where
   -- by the refusal of the call
-  refused-call : (k : ℕ) → refusal s (length t) budget ≡ suc k → (r : Answer) → r ≡ refused (suc k) → (t′ : List ℕ) → t′ ≡ refusedTable t (suc k) → Solved s t budget r s t′
+  refused-call : (k : ℕ) → refusal s (length t) budget ≡ suc k → (r : Answer) → r ≡ refused budget (suc k) →
+      (t′ : List ℕ) → t′ ≡ refusedTable t (suc k) → Solved s t budget r s t′
   unfolding answerTo bytesAfter tableAfter onRefusal
   refused-call k e r a t′ last = rw e (a, (refl, last))
 
@@ -109,7 +112,8 @@ module _ (s t : List ℕ) (budget : ℕ) where
   worked-call e s′ t′ r f last = rw e (f .said, (f .bytes, last))
 
   -- refused by questions 1 to 8
-  pub refused-by : (n : ℕ) → RefusedBy n ≡ verdict (sheetRefusal s (length t)) → (r : Answer) → r ≡ refused n → (t′ : List ℕ) → t′ ≡ checkedTable s t → Solved s t budget r s t′
+  pub refused-by : (n : ℕ) → RefusedBy n ≡ verdict (sheetRefusal s (length t)) → (r : Answer) → r ≡ refused budget n →
+      (t′ : List ℕ) → t′ ≡ checkedTable s t → Solved s t budget r s t′
   unfolding verdict checkedTable sheetRefusal refusal onRefusal
   refused-by n e r a t′ last = go (sheetRefusal s (length t)) refl e
     where
@@ -117,7 +121,8 @@ module _ (s t : List ℕ) (budget : ℕ) where
       go zero z v = let f : _≡_ {A = ℕ} 0 1 = cc in absurd (omega arith)
       go (suc k) z v =
           let same : n ≡ suc k = cc in
-          refused-call k (refused-more 1 ((λ _. question1 (length t)) ∷ sheetQuestions s) ((λ _. question9 budget) ∷ []) k z) r (a ∙ ap refused same) t′ (last ∙ rw z)
+          let no = refused-more 1 ((λ _. question1 (length t)) ∷ sheetQuestions s) ((λ _. question9 budget) ∷ []) k z in
+          refused-call k no r (a ∙ ap (refused budget) same) t′ (last ∙ rw z)
 
   -- accepted by questions 1 to 8
   module _ (e : Accepted ≡ verdict (sheetRefusal s (length t))) (byte : Bytes s) where
@@ -163,7 +168,8 @@ module _ (s t : List ℕ) (budget : ℕ) where
       pub workable : Workable s (getD s 3 0)
       workable = record { formed = asked-problem (problemOf s) (cellsOf s) (stands .asked); consistent = asked-cells (problemOf s) (cellsOf s) (stands .asked); same = kind-is s }
 
-      pub no-budget : budget ≡ 0 → (r : Answer) → r ≡ refused 9 → (t″ : List ℕ) → t″ ≡ take 0 t′ ++ replicate (length t′ - 0) 0 → Solved s t budget r s t″
+      pub no-budget : budget ≡ 0 → (r : Answer) → r ≡ refused budget 9 →
+          (t″ : List ℕ) → t″ ≡ take 0 t′ ++ replicate (length t′ - 0) 0 → Solved s t budget r s t″
       unfolding question9 refusedTable
       no-budget z r a t″ last = let l : length t′ - 0 ≡ length t = omega (arith, long) in refused-call 8 (by-budget ∙ rw z) r a t″ (last ∙ rw l)
 

@@ -55,4 +55,4 @@ pub record DidPasses (t : List ℕ) (p : Problem) (s : List ℕ) (r : PassesMade
 -- the bytes s′ and the answer r are the work of a call on the sheet s
 pub record Finished (s s′ : List ℕ) (r : Answer) (budget : ℕ) : Type 0 where
   pub bytes : s′ ≡ write (problemOf s) (cellsAfter (work (problemOf s) (cellsOf s) budget))
-  pub said : r ≡ finished (problemOf s) (work (problemOf s) (cellsOf s) budget)
+  pub said : r ≡ finished (problemOf s) budget (work (problemOf s) (cellsOf s) budget)

@@ -1,6 +1,6 @@
 // Learning depth-first search over the bytes of a sheet, and the public `solve`.
-pub mod visits; // visits.rt: a visit to a state
-pub mod passes; // passes.rt: passes, visits to the start
+mod visits; // visits.rt: a visit to a state
+mod passes; // passes.rt: passes, visits to the start
 
 ghost use mathlib.Core.Path.{_≡_};
 ghost use mathlib.Core.List.{List};
@@ -25,21 +25,22 @@ use sheet::numbers::get16;
 use sheet::numbers::long;
 use sheet::numbers::place;
 
-// The answer of a call that is refused.
-pub fn refusal(n: u32) -> Answer
-    ensures { λ r. ⌜ r ≡ refused n ⌝ }
+// The answer of a call with a budget that is refused by a question's number.
+pub fn refusal(n: u32, budget: u64) -> Answer
+    ensures { λ r. ⌜ r ≡ refused budget n ⌝ }
 {
     Answer {
         outcome: Outcome::Refused(n),
         price: 0,
         passes: 0,
         raises: 0,
+        budget,
     }
 }
 
 // The work of a call on an accepted sheet, and its answer: settled where the start is marked below the ceiling, over where it is marked at it, else
 // stopped.
-pub fn finish(sheet: &mut [u8], table: &[u32], budget: u64) -> Answer
+fn finish(sheet: &mut [u8], table: &[u32], budget: u64) -> Answer
     requires { ⌜ Within (now sheet) (now table) (problemOf (now sheet) .start) ⌝ }
     requires { ⌜ Workable (now sheet) (getD (now sheet) 3 0) ⌝ }
     ensures { λ r. ⌜ Finished (now (sheet .entry)) (now (sheet .exit)) r budget ⌝ }
@@ -55,6 +56,7 @@ pub fn finish(sheet: &mut [u8], table: &[u32], budget: u64) -> Answer
                 price,
                 passes: w.begun,
                 raises: w.raises,
+                budget,
             }
         } else {
             Answer {
@@ -62,6 +64,7 @@ pub fn finish(sheet: &mut [u8], table: &[u32], budget: u64) -> Answer
                 price,
                 passes: w.begun,
                 raises: w.raises,
+                budget,
             }
         }
     } else {
@@ -70,6 +73,7 @@ pub fn finish(sheet: &mut [u8], table: &[u32], budget: u64) -> Answer
             price,
             passes: w.begun,
             raises: w.raises,
+            budget,
         }
     }
 }
@@ -83,11 +87,11 @@ pub fn solve(sheet: &mut [u8], table: &mut [u32], budget: u64) -> Answer
 {
     let v = check(sheet, table);
     match v {
-        Verdict::Refused(n) => refusal(n),
+        Verdict::Refused(n) => refusal(n, budget),
         Verdict::Accepted => {
             if budget == 0 {
                 clear(table, 0);
-                refusal(9)
+                refusal(9, budget)
             } else {
                 finish(sheet, table, budget)
             }

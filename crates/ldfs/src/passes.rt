@@ -10,14 +10,14 @@ use super::visits::Way;
 use super::visits::visit;
 
 // What the work of a call gives: how the last pass ended, the passes begun, and the raises made.
-pub struct Passes {
-    pub way: Way,
-    pub begun: u64,
-    pub raises: u64,
+pub(crate) struct Passes {
+    pub(crate) way: Way,
+    pub(crate) begun: u64,
+    pub(crate) raises: u64,
 }
 
 // The work of one call. A pass that fails has raised something, so what is left of the budget falls.
-pub fn work(sheet: &mut [u8], table: &[u32], kind: u8, start: usize, budget: u64) -> Passes
+pub(crate) fn work(sheet: &mut [u8], table: &[u32], kind: u8, start: usize, budget: u64) -> Passes
     requires { ⌜ Within (now sheet) (now table) start ⌝ }
     requires { ⌜ Workable (now sheet) kind ⌝ }
     requires { ⌜ start ≡ problemOf (now sheet) .start ⌝ }

@@ -27,26 +27,26 @@ use sheet::fields::value_at;
 use sheet::pricing::price;
 
 // How a visit ends: document 002's true and false, or for want of budget.
-pub enum Way {
+pub(crate) enum Way {
     Success,
     Failure,
     Halt,
 }
 
 // What a visit gives: how it ended, and the raises made by then.
-pub struct Visited {
-    pub way: Way,
-    pub raises: u64,
+pub(crate) struct Visited {
+    pub(crate) way: Way,
+    pub(crate) raises: u64,
 }
 
 // What an update gives: whether the budget had room for it, and the raises made by then.
-pub struct Updated {
-    pub done: bool,
-    pub raises: u64,
+struct Updated {
+    done: bool,
+    raises: u64,
 }
 
 // The value of a state becomes x: a raise where that is larger, and work stops just before the raise that would go beyond the budget.
-pub fn update(
+fn update(
     sheet: &mut [u8],
     table: &[u32],
     state: usize,
@@ -78,7 +78,7 @@ pub fn update(
 }
 
 // An open terminal: its value becomes its cost, and it is marked.
-pub fn visit_terminal(
+fn visit_terminal(
     sheet: &mut [u8],
     table: &[u32],
     state: usize,
@@ -107,14 +107,14 @@ pub fn visit_terminal(
 }
 
 // The lesser of two prices.
-pub fn lesser(x: u32, y: u32) -> u32
+fn lesser(x: u32, y: u32) -> u32
     ensures { λ r. ⌜ r ≡ min x y ⌝ }
 {
     if x < y { x } else { y }
 }
 
 // The least price of a decision's actions.
-pub fn least_price(sheet: &[u8], table: &[u32], kind: u8, state: usize) -> u32
+fn least_price(sheet: &[u8], table: &[u32], kind: u8, state: usize) -> u32
     requires { ⌜ Decision (now sheet) (now table) state ⌝ }
     requires { ⌜ Workable (now sheet) kind ⌝ }
     ensures { λ r. ⌜ r ≡ least (q (kindOf kind) (valueOf (cellsOf (now (sheet .entry))))) (actionsOf (nodeAt (problemOf (now (sheet .entry))) state)) ⌝ }
@@ -133,7 +133,7 @@ pub fn least_price(sheet: &[u8], table: &[u32], kind: u8, state: usize) -> u32
 }
 
 // An open decision none of whose actions passed: its value becomes the least price.
-pub fn fail(
+fn fail(
     sheet: &mut [u8],
     table: &[u32],
     kind: u8,
@@ -163,7 +163,7 @@ pub fn fail(
 }
 
 // A visit to a state. The value of a decision stays while its successors are visited, and a visit that raised nothing changed no price.
-pub fn visit(
+pub(crate) fn visit(
     sheet: &mut [u8],
     table: &[u32],
     kind: u8,

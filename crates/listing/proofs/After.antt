@@ -8,10 +8,10 @@ use borrow.Author.Tests.{le-leb, lt-leb}
 use lib.ListN.{length}
 use Rattle.model.specs.declared.Answer.{Answer}
 use Rattle.model.specs.declared.Outcome.the-variants.{Settled}
+use Rattle.model.specs.Format.{Bytes}
 use Rattle.model.specs.Read.{problemOf, cellsOf}
 use Rattle.model.specs.Questions.{refusal}
 use Rattle.model.specs.Report.{largest, onRefusal, answerTo, bytesAfter, indexTable, tableAfter}
-use Rattle.layout.specs.Shape.{Bytes}
 use Rattle.sheet.proofs.Laws.{own, indexed}
 use Rattle.theory.proofs.Accepted.{asked-problem, asked-cells}
 use Rattle.theory.proofs.Sheets.{Stands, accepted-stands, stands-problem, stands-cells, unrefused}

@@ -1,26 +1,30 @@
--- The promises of a listing: the stages that it has lines for are those that the plan written in the sheet reaches from the start, and its price is the
--- least cost.
+-- The promises of a listing: its price is the least cost, and the stages that it has lines for are those that the plan reaches.
 use Prim.Native.Nat.{ℕ, zero, suc, _≤_}
 use mathlib.Core.Path.{_≡_, refl, sym, subst}
 use mathlib.Core.Bool.{Bool, true, false, _||_}
 use mathlib.Core.Logic.{_⊎_, inl, inr, ⊎-elim}
-use mathlib.Core.List.{List, [], _∷_, _++_}
+use mathlib.Core.List.{List, [], _∷_, _++_, append-nil}
 use native.Mathlib.Omega.{arith}
 use native.Mathlib.Nat.{eq-or-lt-of-le}
 use borrow.Author.Tests.{eqb-true, eq-eqb}
 use lib.Dec.{eqb}
 use Rattle.model.specs.declared.Answer.{Answer}
-use Rattle.model.specs.declared.Outcome.the-variants.{Settled, Stopped}
 use Rattle.model.specs.Tests.{never, also-true, true-also}
 use Rattle.model.specs.Problem.{Node, terminal, decision, Problem, Cell, states, nodeAt, actionAt, cellOf, _∈_, here, there}
+use Rattle.model.specs.Format.{Bytes}
 use Rattle.model.specs.Read.{problemOf, cellsOf}
+use Rattle.model.specs.QValue.{ceiling}
+use Rattle.model.specs.Questions.{questions, First}
 use Rattle.model.specs.Policy.{Reach, arrived, onward, written}
-use Rattle.model.specs.Optimal.{optimal}
-use Rattle.model.specs.Report.{largest, answerTo, bytesAfter}
-use Rattle.model.specs.Demand3.{Accepted}
+use Rattle.model.specs.Report.{number, largest, answerTo, bytesAfter}
+use Rattle.model.specs.Demands.{startCost}
 use Rattle.theory.specs.Consistent.{WellFormed}
+use Rattle.theory.proofs.Refusals.{first-refuses}
 use Rattle.theory.proofs.Sheets.{accepted-stands}
-use Rattle.theory.proofs.Promises.{problem-of, still-a-sheet, raises-small, settled-is-optimal, stopped-has-spent}
+use Rattle.theory.proofs.Called.{answer-refused, budget-given}
+use Rattle.theory.proofs.Promises.{problem-of, still-a-sheet, raises-small}
+use Rattle.theory.proofs.Outcomes.{numbered}
+use Rattle.theory.proofs.Demands.{demand2, worked-accepted}
 use Rattle.listing.specs.Text.{ascii}
 use Rattle.listing.specs.Listing.{field, findingsOf, findings, listed, reachedBelow, reached, stateLines, listing}
 
@@ -46,6 +50,11 @@ in-listed : {t : ℕ} {ts : List ℕ} → t ∈ ts → listed t ts ≡ true
 unfolding listed
 in-listed (here {t} {ts}) = or-left (eqb t t) (listed t ts) (eq-eqb t t refl)
 in-listed (there {t} {u} {ts} m) = or-right (eqb t u) (listed t ts) (in-listed m)
+
+-- stage t has a line exactly where the plan that is written in the cells reaches it from the start
+abbrev pub ListedAsReached : Problem → List Cell → ℕ → Type 0
+ListedAsReached p cells t =
+    (reached p cells t ≡ true → Reach p (written cells) (p .start) t) × (Reach p (written cells) (p .start) t → reached p cells t ≡ true)
 
 module _ (p : Problem) (cells : List Cell) where
   -- one step more, at the end
@@ -88,27 +97,47 @@ module _ (p : Problem) (cells : List Cell) where
         next = or-right (reachedBelow p cells s u) _ (true-also _ _ h (in-listed found))
 
     -- the lines are of the stages that the plan reaches
-    pub reached-is : (t : ℕ) → (reached p cells t ≡ true → Reach p (written cells) (p .start) t) × (Reach p (written cells) (p .start) t → reached p cells t ≡ true)
+    reached-is : (t : ℕ) → ListedAsReached p cells t
     unfolding reachedBelow
     reached-is t = (reached-reach t t, λ r. onwards r (more 0 (p .start) (eq-eqb (p .start) (p .start) refl) (p .start) (omega arith)))
 
--- of an accepted sheet
-pub listed-is-reached : (s : List ℕ) → Accepted s → (t : ℕ) → (reached (problemOf s) (cellsOf s) t ≡ true → Reach (problemOf s) (written (cellsOf s)) (problemOf s .start) t) × (Reach (problemOf s) (written (cellsOf s)) (problemOf s .start) t → reached (problemOf s) (cellsOf s) t ≡ true)
-listed-is-reached s acc = reached-is (problemOf s) (cellsOf s) (problem-of (accepted-stands s (acc .bytes) (acc .yes)))
-
--- What `price` prints of an accepted sheet: a settled price is the least cost of the start, with the plan's lines behind it; it never prints `stopped`.
-module _ (s : List ℕ) (acc : Accepted s) (entries : ℕ) where
+-- What `price` prints of any bytes, with a table of any number of entries, by the number of the outcome. Demand 1 says that these are all.
+module _ (s : List ℕ) (bytes : Bytes s) (entries : ℕ) where
   abbrev answer : Answer
   answer = answerTo s entries largest
 
   abbrev after : List ℕ
   after = bytesAfter s entries largest
 
-  pub settled-prints : answer .outcome ≡ Settled →
-      listing s entries ≡ (field (ascii "settled ") (optimal (problemOf s) (problemOf s .start)) ++ (field (ascii " ") (answer .passes) ++ (field (ascii " ") (answer .raises) ++ ascii "\n")))
-      ++ stateLines (problemOf s) (cellsOf after) (states (problemOf s))
-  unfolding listing
-  settled-prints e = rw (e, settled-is-optimal s acc entries largest e, still-a-sheet s acc entries largest .1)
+  -- line one of a call that worked: the outcome's word, a price, and its passes and raises
+  abbrev line : List ℕ → ℕ → List ℕ
+  line word price = field word price ++ (field (ascii " ") (answer .passes) ++ (field (ascii " ") (answer .raises) ++ ascii "\n"))
 
-  pub never-stopped : answer .outcome ≡ Stopped → ⊥
-  never-stopped e = omega (arith, stopped-has-spent s acc entries largest e, raises-small s acc entries largest)
+  -- refused: the number of the first question that is answered no
+  pub refused-prints : (i : ℕ) → First (questions s entries largest) i → listing s entries ≡ field (ascii "refused ") (suc i) ++ ascii "\n"
+  unfolding listing
+  refused-prints i f = rw (answer-refused s entries largest i (first-refuses s entries largest i f), append-nil)
+
+  -- settled: the least cost of the start, and then a line for each stage that the plan in the sheet reaches
+  pub settled-prints : number (answer .outcome) ≡ 100 →
+      (listing s entries ≡ line (ascii "settled ") (startCost s) ++ stateLines (problemOf s) (cellsOf after) (states (problemOf s)))
+      × ((t : ℕ) → ListedAsReached (problemOf s) (cellsOf after) t)
+  unfolding listing
+  settled-prints e =
+      let d = demand2 s bytes entries largest .settled e in
+      let acc = worked-accepted s bytes entries largest (omega arith) in (
+        rw (numbered s entries largest .settled e, d .price, still-a-sheet s acc entries largest .1),
+        reached-is (problemOf s) (cellsOf after) (problem-of (accepted-stands s bytes (acc .yes))),
+      )
+
+  -- over: the ceiling, which the least cost of the start is at least
+  pub over-prints : number (answer .outcome) ≡ 101 → (listing s entries ≡ line (ascii "over ") ceiling) × (ceiling ≤ startCost s)
+  unfolding listing
+  over-prints e =
+      let d = demand2 s bytes entries largest .over e in
+      (rw (numbered s entries largest .over e, d .price) (append-nil (line (ascii "over ") ceiling)), d .above)
+
+  -- it never prints `stopped`
+  pub never-stopped : number (answer .outcome) ≡ 102 → ⊥
+  never-stopped e =
+      omega (arith, demand2 s bytes entries largest .stopped e .spent, budget-given s entries largest, raises-small s bytes entries largest)

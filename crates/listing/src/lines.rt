@@ -19,7 +19,7 @@ use sheet::numbers::long;
 use sheet::numbers::wide;
 
 // `refused` and the number.
-pub fn put_refused(out: &mut [u8], at: usize, n: u32) -> usize
+fn put_refused(out: &mut [u8], at: usize, n: u32) -> usize
     requires { ⌜ at + 29 ≤ length (now out) ⌝ }
     ensures { λ r. ⌜ Wrote (now (out .entry)) (now (out .exit)) at r (field (ascii "refused ") n ++ ascii "\n") ⌝ }
     ensures { λ r. ⌜ r ≤ at + 29 ⌝ }
@@ -29,7 +29,7 @@ pub fn put_refused(out: &mut [u8], at: usize, n: u32) -> usize
 }
 
 // An outcome's word, the start's value, passes and raises.
-pub fn put_figures(out: &mut [u8], at: usize, word: &[u8], a: Answer) -> usize
+fn put_figures(out: &mut [u8], at: usize, word: &[u8], a: Answer) -> usize
     requires { ⌜ at + length (now word) + 63 ≤ length (now out) ⌝ }
     ensures { λ r. ⌜ Wrote (now (out .entry)) (now (out .exit)) at r (figures (now (word .entry)) a) ⌝ }
     ensures { λ r. ⌜ r ≤ at + length (now (word .entry)) + 63 ⌝ }
@@ -41,7 +41,7 @@ pub fn put_figures(out: &mut [u8], at: usize, word: &[u8], a: Answer) -> usize
 }
 
 // Line one of a listing.
-pub fn put_answer(out: &mut [u8], at: usize, a: Answer) -> usize
+pub(crate) fn put_answer(out: &mut [u8], at: usize, a: Answer) -> usize
     requires { ⌜ at + 71 ≤ length (now out) ⌝ }
     ensures { λ r. ⌜ Wrote (now (out .entry)) (now (out .exit)) at r (lineOne a) ⌝ }
     ensures { λ r. ⌜ r ≤ at + 71 ⌝ }
@@ -56,7 +56,7 @@ pub fn put_answer(out: &mut [u8], at: usize, a: Answer) -> usize
 }
 
 // A stage's chosen check, or `end`.
-pub fn put_choice(sheet: &[u8], table: &[u32], out: &mut [u8], at: usize, state: usize) -> usize
+fn put_choice(sheet: &[u8], table: &[u32], out: &mut [u8], at: usize, state: usize) -> usize
     requires { ⌜ Within (now sheet) (now table) state ⌝ }
     requires { ⌜ at + 27 ≤ length (now out) ⌝ }
     ensures { λ r. ⌜ Wrote (now (out .entry)) (now (out .exit)) at r (choiceOf (nodeAt (problemOf (now (sheet .entry))) state) (cellOf (cellsOf (now (sheet .entry))) state)) ⌝ }
@@ -75,7 +75,13 @@ pub fn put_choice(sheet: &[u8], table: &[u32], out: &mut [u8], at: usize, state:
 }
 
 // A stage's line.
-pub fn put_state(sheet: &[u8], table: &[u32], out: &mut [u8], at: usize, state: usize) -> usize
+pub(crate) fn put_state(
+    sheet: &[u8],
+    table: &[u32],
+    out: &mut [u8],
+    at: usize,
+    state: usize,
+) -> usize
     requires { ⌜ Within (now sheet) (now table) state ⌝ }
     requires { ⌜ at + 81 ≤ length (now out) ⌝ }
     ensures { λ r. ⌜ Wrote (now (out .entry)) (now (out .exit)) at r (stateLine (problemOf (now (sheet .entry))) (cellsOf (now (sheet .entry))) state) ⌝ }

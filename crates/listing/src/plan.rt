@@ -22,7 +22,7 @@ use sheet::numbers::place;
 use sheet::numbers::wide;
 
 // The flags of the successors of the action at `at` go up.
-pub fn raise(sheet: &[u8], at: usize, flags: &mut [bool])
+fn raise(sheet: &[u8], at: usize, flags: &mut [bool])
     requires { ⌜ actionFits (drop at (now sheet)) ≡ true ⌝ }
     requires { ⌜ ((j : ℕ) → j < length (actionRead (drop at (now sheet)) .successors) → getD (actionRead (drop at (now sheet)) .successors) j 0 < length (now flags)) ⌝ }
     ensures { λ _. ⌜ now (flags .exit) ≡ raised (now (flags .entry)) (actionRead (drop at (now (sheet .entry))) .successors) ⌝ }
@@ -37,7 +37,7 @@ pub fn raise(sheet: &[u8], at: usize, flags: &mut [bool])
 }
 
 // The flags of the findings of a stage's chosen check go up.
-pub fn reach_on(sheet: &[u8], table: &[u32], flags: &mut [bool], state: usize)
+fn reach_on(sheet: &[u8], table: &[u32], flags: &mut [bool], state: usize)
     requires { ⌜ Listable (now sheet) (now table) ⌝ }
     requires { ⌜ (state < states (problemOf (now sheet))) × (states (problemOf (now sheet)) ≤ length (now flags)) ⌝ }
     ensures { λ _. ⌜ now (flags .exit) ≡ raised (now (flags .entry)) (findings (problemOf (now (sheet .entry))) (cellsOf (now (sheet .entry))) state) ⌝ }
@@ -51,7 +51,7 @@ pub fn reach_on(sheet: &[u8], table: &[u32], flags: &mut [bool], state: usize)
 }
 
 // The lines of the stages whose flags are up, from the first stage on; at the outset only the start's is.
-pub fn put_states(
+fn put_states(
     sheet: &[u8],
     table: &[u32],
     flags: &mut [bool],
@@ -78,13 +78,7 @@ pub fn put_states(
 }
 
 // The lines of all stages that the plan reaches. No flag is up at the outset.
-pub fn put_reached(
-    sheet: &[u8],
-    table: &[u32],
-    flags: &mut [bool],
-    out: &mut [u8],
-    at: usize,
-) -> usize
+fn put_reached(sheet: &[u8], table: &[u32], flags: &mut [bool], out: &mut [u8], at: usize) -> usize
     requires { ⌜ Listable (now sheet) (now table) ⌝ }
     requires { ⌜ now flags ≡ replicate maxStates false ⌝ }
     requires { ⌜ at + 81 * maxStates ≤ length (now out) ⌝ }
@@ -97,7 +91,7 @@ pub fn put_reached(
 }
 
 // The lines that follow line one: none but when settled.
-pub fn put_plan(sheet: &[u8], table: &[u32], out: &mut [u8], at: usize, o: Outcome) -> usize
+pub(crate) fn put_plan(sheet: &[u8], table: &[u32], out: &mut [u8], at: usize, o: Outcome) -> usize
     requires { ⌜ (o ≡ Settled → Listable (now sheet) (now table)) ⌝ }
     requires { ⌜ at + 81 * maxStates ≤ length (now out) ⌝ }
     ensures { λ r. ⌜ Wrote (now (out .entry)) (now (out .exit)) at r (planOf o (now (sheet .entry))) ⌝ }

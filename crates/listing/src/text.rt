@@ -8,7 +8,7 @@ ghost use Rattle.listing.specs.Listing.{field};
 ghost use Rattle.listing.specs.Put.{Wrote};
 
 // One byte.
-pub fn put_byte(out: &mut [u8], at: usize, b: u8) -> usize
+fn put_byte(out: &mut [u8], at: usize, b: u8) -> usize
     requires { ⌜ at < length (now out) ⌝ }
     ensures { λ r. ⌜ Wrote (now (out .entry)) (now (out .exit)) at r (b ∷ []) ⌝ }
 {
@@ -17,7 +17,7 @@ pub fn put_byte(out: &mut [u8], at: usize, b: u8) -> usize
 }
 
 // The bytes of a word.
-pub fn put_word(out: &mut [u8], at: usize, word: &[u8]) -> usize
+pub(crate) fn put_word(out: &mut [u8], at: usize, word: &[u8]) -> usize
     requires { ⌜ at + length (now word) ≤ length (now out) ⌝ }
     ensures { λ r. ⌜ Wrote (now (out .entry)) (now (out .exit)) at r (now (word .entry)) ⌝ }
 {
@@ -31,14 +31,14 @@ pub fn put_word(out: &mut [u8], at: usize, word: &[u8]) -> usize
 }
 
 // The last digit of a number.
-pub fn last_digit(x: u64) -> u8
+fn last_digit(x: u64) -> u8
     ensures { λ r. ⌜ r ≡ lastDigit x ⌝ }
 {
     (48 + x % 10) as u8
 }
 
 // A number in decimal: the digits before its last one, and that.
-pub fn put_number(out: &mut [u8], at: usize, x: u64) -> usize
+fn put_number(out: &mut [u8], at: usize, x: u64) -> usize
     requires { ⌜ at + length (decimal x) ≤ length (now out) ⌝ }
     ensures { λ r. ⌜ Wrote (now (out .entry)) (now (out .exit)) at r (decimal x) ⌝ }
 {
@@ -51,7 +51,7 @@ pub fn put_number(out: &mut [u8], at: usize, x: u64) -> usize
 }
 
 // A word, and a number behind it.
-pub fn put_field(out: &mut [u8], at: usize, word: &[u8], x: u64) -> usize
+pub(crate) fn put_field(out: &mut [u8], at: usize, word: &[u8], x: u64) -> usize
     requires { ⌜ at + length (now word) + 20 ≤ length (now out) ⌝ }
     ensures { λ r. ⌜ Wrote (now (out .entry)) (now (out .exit)) at r (field (now (word .entry)) x) ⌝ }
     ensures { λ r. ⌜ r ≤ at + length (now (word .entry)) + 20 ⌝ }

@@ -9,5 +9,5 @@ pub mod Optimal
 pub mod Policy
 pub mod Report
 pub mod Calls
-pub mod Demand3
+pub mod Demands
 pub mod Rows

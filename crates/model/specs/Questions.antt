@@ -1,5 +1,5 @@
 -- Questions put to a sheet, in document 01's order and words. The refusal is the number of the first whose answer is no.
-use Prim.Native.Nat.{ℕ, suc}
+use Prim.Native.Nat.{ℕ, suc, _<_}
 use mathlib.Core.Path.{_≡_, refl}
 use mathlib.Core.Bool.{Bool, true, false}
 use mathlib.Core.List.{List, [], _∷_, _++_}
@@ -124,6 +124,10 @@ sheetQuestions s =
     ∷ (λ _. question8 (problemOf s) (cellsOf s))
     ∷ []
 
+-- the nine questions of a call with a table of so many entries and a budget, in order
+abbrev pub questions : List ℕ → ℕ → ℕ → List Question
+questions s entries budget = (λ _. question1 entries) ∷ sheetQuestions s ++ ((λ _. question9 budget) ∷ [])
+
 -- the number of the first of some questions, numbered from n, whose answer is no; 0 where there is none
 unfoldable pub firstNo : ℕ → List Question → ℕ
 firstNo n [] = 0
@@ -135,11 +139,20 @@ sheetRefusal s entries = firstNo 1 ((λ _. question1 entries) ∷ sheetQuestions
 
 -- the refusal of a call on a sheet, with a table of so many entries and a budget; 0 where there is none
 unfoldable pub refusal : List ℕ → ℕ → ℕ → ℕ
-refusal s entries budget = firstNo 1 ((λ _. question1 entries) ∷ sheetQuestions s ++ ((λ _. question9 budget) ∷ []))
+refusal s entries budget = firstNo 1 (questions s entries budget)
 
 -- an accepted sheet, in demand 3's sense: a yes to every question but those on the table and the budget
 unfoldable pub accepted : List ℕ → Bool
 accepted s = eqb (firstNo 2 (sheetQuestions s)) 0
+
+-- the answer to the question behind i others of a list, which is question i + 1 of a call's; a yes past the end
+abbrev pub answerAt : List Question → ℕ → Bool
+answerAt asked i = getD asked i (λ _. true) tt
+
+-- the question behind i others is the first of a list whose answer is no
+pub record First (asked : List Question) (i : ℕ) : Type 0 where
+  pub no : answerAt asked i ≡ false
+  pub yes-before : (j : ℕ) → j < i → answerAt asked j ≡ true
 
 -- Every question of a list is answered yes: then, and only then, there is no first no.
 abbrev pub AllYes : List Question → Type 0

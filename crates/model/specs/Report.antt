@@ -23,7 +23,7 @@ number Settled = 100
 number Over = 101
 number Stopped = 102
 
--- an answer in numbers: outcome, price, passes, raises
+-- an answer in document 01's numbers: outcome, price, passes, raises
 abbrev pub numbers : Answer → List ℕ
 numbers a = number (a .outcome) ∷ a .price ∷ a .passes ∷ a .raises ∷ []
 
@@ -42,17 +42,18 @@ raisesOf r = searchOf (r .ended) .raises
 abbrev pub largest : ℕ
 largest = 2 ^ 64 - 1
 
--- the answer to a call that is refused, and to one that has worked
-abbrev pub refused : ℕ → Answer
-refused n = record { outcome = Refused n; price = 0; passes = 0; raises = 0 }
+-- the answer to a call with a budget that is refused by a question's number, and to one that has worked
+abbrev pub refused : ℕ → ℕ → Answer
+refused budget n = record { outcome = Refused n; price = 0; passes = 0; raises = 0; budget = budget }
 
-abbrev pub finished : Problem → Passes → Answer
-finished p r =
+abbrev pub finished : Problem → ℕ → Passes → Answer
+finished p budget r =
     record {
       outcome = outcomeOf (cellOf (cellsAfter r) (p .start));
       price = cellOf (cellsAfter r) (p .start) .value;
       passes = r .begun;
       raises = raisesOf r;
+      budget = budget;
     }
 
 -- what follows where nothing is refused, and where a question is answered no, by its number
@@ -62,7 +63,8 @@ onRefusal (suc n) f g = g (suc n)
 
 -- the answer to a call on the sheet s, with a table of so many entries and a budget
 unfoldable pub answerTo : List ℕ → ℕ → ℕ → Answer
-answerTo s entries budget = onRefusal (refusal s entries budget) (λ _. finished (problemOf s) (work (problemOf s) (cellsOf s) budget)) refused
+answerTo s entries budget =
+    onRefusal (refusal s entries budget) (λ _. finished (problemOf s) budget (work (problemOf s) (cellsOf s) budget)) (refused budget)
 
 -- the same in document 01's numbers
 unfoldable pub report : List ℕ → ℕ → ℕ → List ℕ

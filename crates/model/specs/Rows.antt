@@ -1,16 +1,16 @@
 -- The worked rows of document 01, in one table, and one proof across it that the definitions give what is expected.
-use Prim.Native.Nat.{ℕ, zero, suc, _+_, _*_, _^_, _<_, min}
+use Prim.Native.Nat.{ℕ, zero, suc, _+_, _-_, _*_, _^_, _<_, _≤_, min}
 use mathlib.Core.Path.{_≡_, refl}
 use mathlib.Core.Bool.{Bool, true, false}
 use mathlib.Core.List.{List, [], _∷_, _++_}
 use native.Mathlib.Omega.{arith}
-use borrow.Author.Tests.{eqb-true}
+use borrow.Author.Tests.{eqb-true, le-leb}
 use lib.Dec.{eqb}
 use lib.ListN.{length, getD, set, take, replicate}
 use Rattle.model.specs.Tests.{also, never, also-true}
 use Rattle.model.specs.Problem.{worst, whole, action, Node, terminal, decision, problem, Cell, cell}
 use Rattle.model.specs.Format.{bytes2, successorsBytes, write}
-use Rattle.model.specs.Questions.{refusal}
+use Rattle.model.specs.Questions.{maxStates, refusal}
 use Rattle.model.specs.Report.{largest, report, bytesAfter, tableAfter, computing}
 
 -- what a row says: outcome, price, passes and raises in numbers, or that the sheet is accepted
@@ -202,10 +202,10 @@ all-hold (r ∷ more) h (suc i) lt = all-hold more (also-true _ _ h .1) i (omega
 pub rows-hold : (i : ℕ) → i < length rows → Holds (rowAt rows i)
 rows-hold = all-hold rows rows-pass
 
--- Sheet A has 81 bytes and offsets 8, 37, 57, 69.
+-- Sheet A has 81 bytes and offsets 8, 37, 57, 69; whatever a long enough table held, its other entries become 0.
 pub length-A : length sheetA ≡ 81
 length-A = refl
 
-pub offsets-A : take 5 (tableAfter sheetA (replicate 1024 7) largest) ≡ 8 ∷ 37 ∷ 57 ∷ 69 ∷ 0 ∷ []
+pub offsets-A : (t : List ℕ) → maxStates ≤ length t → tableAfter sheetA t largest ≡ 8 ∷ 37 ∷ 57 ∷ 69 ∷ replicate (length t - 4) 0
 unfolding computing
-offsets-A = refl
+offsets-A t h = rw (le-leb maxStates (length t) h)

@@ -23,10 +23,12 @@ pub enum Outcome {
     Stopped,
 }
 
-// What a call reports: its outcome, the start's value, the passes begun and the raises made; 0 for all three when refused.
+// What a call reports: its outcome; the start's value, the passes begun and the raises made, 0 for all three when refused; and the
+// budget, the allowance of raises that it was given.
 pub struct Answer {
     pub outcome: Outcome,
     pub price: u64,
     pub passes: u64,
     pub raises: u64,
+    pub budget: u64,
 }

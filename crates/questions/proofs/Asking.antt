@@ -10,11 +10,10 @@ use lib.ListN.{length, getD, take, drop, replicate, length-append, length-drop}
 use lib.Seq.{take-at}
 use Rattle.model.specs.Tests.{all, every}
 use Rattle.model.specs.Problem.{Problem, Cell, states}
-use Rattle.model.specs.Format.{be16, offsetsFrom}
+use Rattle.model.specs.Format.{Bytes, be16, offsetsFrom}
 use Rattle.model.specs.Read.{nodesGood, nodesRead, kindOf, problemOf, cellsOf}
 use Rattle.model.specs.Questions.{maxStates, maxBytes, question1, question2, question3, question4, question5, question6, question7, question8, Question, sheetQuestions, firstNo, sheetRefusal, none-no}
 use Rattle.model.specs.Report.{onRefusal, indexTable, refusedTable, checkedTable}
-use Rattle.layout.specs.Shape.{Bytes}
 use Rattle.layout.proofs.Same.{read-writes, read-shaped, head-says}
 use Rattle.layout.proofs.Index.{states-read, offsets-count}
 use Rattle.sheet.specs.Sheet.{Sheet, Within}

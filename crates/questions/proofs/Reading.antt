@@ -1,5 +1,5 @@
 -- Reading at an offset of the whole sheet, beside reading what is left of it: one law for each way through question 4.
-use Prim.Native.Nat.{ℕ, zero, suc, _+_, _*_, _-_, _%_, _<_, _≤_}
+use Prim.Native.Nat.{ℕ, zero, suc, _+_, _*_, _-_, _%_, _<_, _≤_, max}
 use mathlib.Core.Path.{_≡_, refl, ap, _∙_, sym}
 use mathlib.Core.Bool.{Bool, true, false}
 use mathlib.Core.List.{List, [], _∷_, _++_, append-assoc, append-nil}
@@ -269,8 +269,9 @@ cleared-more t₀ t from i le l h =
     let r : replicate (i - from) z ++ (z ∷ []) ≡ replicate (i - from + 1) z = replicate-append-replicate (i - from) 1 z in
     ap (λ (n : ℕ). take n (set t i 0)) (add-one i) ∙ take-suc-set t i 0 l ∙ rw (h, append-assoc, r, e)
 
-pub cleared-all : (t₀ t : List ℕ) (from i : ℕ) → length t ≤ i → i ≤ length t → length t ≡ length t₀ → take i t ≡ take from t₀ ++ replicate (i - from) 0 → t ≡ take from t₀ ++ replicate (length t₀ - from) 0
-cleared-all t₀ t from i ge le long h = let e : i ≡ length t₀ = omega arith in sym (take-all i t ge) ∙ h ∙ rw e
+pub cleared-all : (t₀ t : List ℕ) (from i : ℕ) → length t ≤ i → i ≤ max from (length t) → length t ≡ length t₀ →
+    take i t ≡ take from t₀ ++ replicate (i - from) 0 → t ≡ take from t₀ ++ replicate (length t₀ - from) 0
+cleared-all t₀ t from i ge le long h = let e : i - from ≡ length t₀ - from = omega arith in sym (take-all i t ge) ∙ h ∙ rw e
 
 -- question 3, by the first test that fails
 module _ (s : List ℕ) (le : 8 ≤ length s) where

@@ -1,12 +1,12 @@
 -- A test of every state, of every action of a decision or of every successor of an action, one at a time.
 use Prim.Native.Nat.{ℕ, _+_, _*_, _<_, _≤_}
-use mathlib.Core.Path.{_≡_, sym, _∙_}
+use mathlib.Core.Path.{_≡_, refl, sym, _∙_}
 use mathlib.Core.Bool.{Bool, true, false}
 use mathlib.Core.List.{List, [], _∷_}
 use native.Mathlib.Omega.{arith}
 use native.Mathlib.Numerals.{add-one}
 use borrow.Author.Tests.{le-leb, lt-leb, lt-ltb, le-ltb, eqb-true, eqb-false}
-use lib.Dec.{leb, eqb}
+use lib.Dec.{leb, ltb, eqb}
 use lib.ListN.{length, getD, drop, drop-of-length-le}
 use lib.Seq.{drop-cons}
 use Rattle.model.specs.Tests.{also, all, every, true-also, every-true, every-false}
@@ -78,9 +78,13 @@ module _ (ts : List ℕ) (j t : ℕ) (lt : j < length ts) (at : t ≡ getD ts j 
     unfolding ascending also all
     not-above a = rw (rest, le-ltb last t a)
 
-    pub not-below : last < t → n ≤ t → false ≡ ascending last n (drop j ts)
+    pub not-below : n ≤ t → false ≡ ascending last n (drop j ts)
     unfolding ascending also all
-    not-below a b = rw (rest, lt-ltb last t a, le-ltb t n b)
+    not-below b = rw (rest, le-ltb t n b) (go (ltb last t) _)
+      where
+        go : (c : Bool) (more : Unit {0} → Bool) → false ≡ also (all (c ∷ false ∷ [])) more
+        go true more = refl
+        go false more = refl
 
   module _ (cells : List Cell) where
     pub solved-more : solved (cellOf cells t) ≡ true → allSolved cells (drop j ts) ≡ allSolved cells (drop (j + 1) ts)

@@ -1,5 +1,5 @@
 // The questions of document 01 put to a sheet's bytes, and the index table.
-pub mod stages; // stages.rt: question 4
+mod stages; // stages.rt: question 4
 pub mod states; // states.rt: questions 5 to 8
 
 ghost use mathlib.Core.Path.{_≡_};
@@ -32,7 +32,7 @@ pub enum Verdict {
 }
 
 // Question 3: does the sheet begin with a head whose kind is 0 or 1, stages 1 to 1,024, start below that number?
-pub fn head_in_place(s: &[u8]) -> bool
+fn head_in_place(s: &[u8]) -> bool
     requires { ⌜ 8 ≤ length (now s) ⌝ }
     ensures { λ r. ⌜ r ≡ question3 (now (s .entry)) ⌝ }
 {
@@ -58,7 +58,7 @@ pub fn head_in_place(s: &[u8]) -> bool
 }
 
 // Questions 5 to 8 of a sheet that is in place: the number of the first whose answer is no, 0 where there is none.
-pub fn states_no(sheet: &[u8], table: &[u32], kind: u8, n: usize) -> u32
+fn states_no(sheet: &[u8], table: &[u32], kind: u8, n: usize) -> u32
     requires { ⌜ (0 < n) × Within (now sheet) (now table) 0 ⌝ }
     requires { ⌜ (n ≡ states (problemOf (now sheet))) × (kindOf kind ≡ problemOf (now sheet) .kind) ⌝ }
     ensures { λ r. ⌜ r ≡ statesNo (problemOf (now (sheet .entry))) (cellsOf (now (sheet .entry))) ⌝ }
@@ -83,7 +83,7 @@ pub fn states_no(sheet: &[u8], table: &[u32], kind: u8, n: usize) -> u32
 }
 
 // Questions 2 to 8: the number of the first whose answer is no, 0 where there is none; then the table begins with the stages' offsets.
-pub fn first_no(sheet: &[u8], table: &mut [u32]) -> u32
+fn first_no(sheet: &[u8], table: &mut [u32]) -> u32
     requires { ⌜ maxStates ≤ length (now table) ⌝ }
     ensures { λ r. ⌜ r ≡ firstNo 2 (sheetQuestions (now (sheet .entry))) ⌝ }
     ensures { λ r. ⌜ (r ≡ 0 → now (table .exit) ≡ offsetsFrom 8 (problemOf (now (sheet .entry)) .nodes) ++ drop (states (problemOf (now (sheet .entry)))) (now (table .entry))) ⌝ }
@@ -108,7 +108,6 @@ pub fn first_no(sheet: &[u8], table: &mut [u32]) -> u32
 
 // The entries of a table from `from` on become 0.
 pub fn clear(table: &mut [u32], from: usize)
-    requires { ⌜ from ≤ length (now table) ⌝ }
     ensures { λ _. ⌜ now (table .exit) ≡ take from (now (table .entry)) ++ replicate (length (now (table .entry)) - from) 0 ⌝ }
 {
     let mut i = from;

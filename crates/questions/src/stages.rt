@@ -11,14 +11,14 @@ use sheet::numbers::byte_at;
 use sheet::numbers::narrow;
 
 // A byte's number as an offset is.
-pub fn small(x: u8) -> usize
+fn small(x: u8) -> usize
     ensures { λ r. ⌜ (r ≡ x) × (r < 256) ⌝ }
 {
     x as usize
 }
 
 // The length of the content of the field at `at`, 0 where its bytes are not there.
-pub fn content_at(s: &[u8], at: usize) -> usize
+fn content_at(s: &[u8], at: usize) -> usize
     requires { ⌜ at ≤ maxBytes ⌝ }
     ensures { λ r. ⌜ (r ≡ be16 (now (s .entry)) (at + 1)) × (r < 65536) ⌝ }
 {
@@ -26,7 +26,7 @@ pub fn content_at(s: &[u8], at: usize) -> usize
 }
 
 // Is an ending's field, whose tag has been read, all there?
-pub fn terminal_fits(s: &[u8], at: usize) -> bool
+fn terminal_fits(s: &[u8], at: usize) -> bool
     requires { ⌜ (at ≤ length (now s)) × (length (now s) ≤ maxBytes) ⌝ }
     ensures { λ r. ⌜ r ≡ terminalFits (drop at (now (s .entry))) ⌝ }
 {
@@ -38,7 +38,7 @@ pub fn terminal_fits(s: &[u8], at: usize) -> bool
 }
 
 // Is a junction's own field there, with a check behind it?
-pub fn header_fits(s: &[u8], at: usize) -> bool
+fn header_fits(s: &[u8], at: usize) -> bool
     requires { ⌜ (at ≤ length (now s)) × (length (now s) ≤ maxBytes) ⌝ }
     ensures { λ r. ⌜ r ≡ headerFits (drop at (now (s .entry))) ⌝ }
 {
@@ -58,7 +58,7 @@ pub fn header_fits(s: &[u8], at: usize) -> bool
 }
 
 // Has a check's field, whose tag has been read, a content of 6 to 36 bytes, even, all there?
-pub fn action_fits(s: &[u8], at: usize) -> bool
+fn action_fits(s: &[u8], at: usize) -> bool
     requires { ⌜ (at ≤ length (now s)) × (length (now s) ≤ maxBytes) ⌝ }
     ensures { λ r. ⌜ r ≡ actionFits (drop at (now (s .entry))) ⌝ }
 {
@@ -78,7 +78,7 @@ pub fn action_fits(s: &[u8], at: usize) -> bool
 
 // Question 4, of a sheet whose head says so many stages. The first field out of place ends the reading, whichever loop it stands in. Where there is
 // none, the table begins with the stages' offsets.
-pub fn stages_in_place(s: &[u8], table: &mut [u32], states: usize) -> bool
+pub(crate) fn stages_in_place(s: &[u8], table: &mut [u32], states: usize) -> bool
     requires { ⌜ (states ≤ length (now table)) × (8 ≤ length (now s)) × (length (now s) ≤ maxBytes) ⌝ }
     ensures { λ r. ⌜ r ≡ nodesGood states (drop 8 (now (s .entry))) ⌝ }
     ensures { λ r. ⌜ (r ≡ true → now (table .exit) ≡ offsetsFrom 8 (nodesRead states (drop 8 (now (s .entry)))) ++ drop states (now (table .entry))) ⌝ }

@@ -30,7 +30,7 @@ use sheet::numbers::wide;
 use sheet::pricing::price;
 
 // Which question is put to a state.
-pub enum Question {
+pub(crate) enum Question {
     // 5: costs, values, marks and chosen checks in range
     Ranges,
     // 6: findings in order
@@ -42,7 +42,7 @@ pub enum Question {
 }
 
 // The number of a decision's actions, 0 where the cost of one is out of range.
-pub fn count_in_range(sheet: &[u8], table: &[u32], state: usize) -> usize
+fn count_in_range(sheet: &[u8], table: &[u32], state: usize) -> usize
     requires { ⌜ Decision (now sheet) (now table) state ⌝ }
     ensures { λ r. ⌜ (r ≡ countInRange (nodeAt (problemOf (now (sheet .entry))) state)) × (r ≤ 16) ⌝ }
 {
@@ -63,7 +63,7 @@ pub fn count_in_range(sheet: &[u8], table: &[u32], state: usize) -> usize
 }
 
 // Question 5 of one state.
-pub fn in_range(sheet: &[u8], table: &[u32], state: usize) -> bool
+fn in_range(sheet: &[u8], table: &[u32], state: usize) -> bool
     requires { ⌜ Within (now sheet) (now table) state ⌝ }
     ensures { λ r. ⌜ r ≡ rangesAt (nodeAt (problemOf (now (sheet .entry))) state) (cellOf (cellsOf (now (sheet .entry))) state) ⌝ }
 {
@@ -86,7 +86,7 @@ pub fn in_range(sheet: &[u8], table: &[u32], state: usize) -> bool
 }
 
 // Are the successors of the action at `at` strictly ascending, above `low` and below `n`?
-pub fn ascending_at(sheet: &[u8], at: usize, low: usize, n: usize) -> bool
+fn ascending_at(sheet: &[u8], at: usize, low: usize, n: usize) -> bool
     requires { ⌜ actionFits (drop at (now sheet)) ≡ true ⌝ }
     ensures { λ r. ⌜ r ≡ ascending low n (actionRead (drop at (now (sheet .entry))) .successors) ⌝ }
 {
@@ -108,7 +108,7 @@ pub fn ascending_at(sheet: &[u8], at: usize, low: usize, n: usize) -> bool
 }
 
 // Question 6 of one state.
-pub fn in_order(sheet: &[u8], table: &[u32], state: usize, n: usize) -> bool
+fn in_order(sheet: &[u8], table: &[u32], state: usize, n: usize) -> bool
     requires { ⌜ Within (now sheet) (now table) state ⌝ }
     ensures { λ r. ⌜ r ≡ successorsInOrder n state (nodeAt (problemOf (now (sheet .entry))) state) ⌝ }
 {
@@ -129,7 +129,7 @@ pub fn in_order(sheet: &[u8], table: &[u32], state: usize, n: usize) -> bool
 }
 
 // Question 7 of one state.
-pub fn value_under(sheet: &[u8], table: &[u32], kind: u8, state: usize) -> bool
+fn value_under(sheet: &[u8], table: &[u32], kind: u8, state: usize) -> bool
     requires { ⌜ Within (now sheet) (now table) state ⌝ }
     requires { ⌜ Ordered (problemOf (now sheet)) kind ⌝ }
     ensures { λ r. ⌜ r ≡ valueUnder (problemOf (now (sheet .entry))) (cellsOf (now (sheet .entry))) state (nodeAt (problemOf (now (sheet .entry))) state) ⌝ }
@@ -152,7 +152,7 @@ pub fn value_under(sheet: &[u8], table: &[u32], kind: u8, state: usize) -> bool
 }
 
 // Are all successors of the action at `at` solved?
-pub fn all_solved(sheet: &[u8], table: &[u32], at: usize) -> bool
+fn all_solved(sheet: &[u8], table: &[u32], at: usize) -> bool
     requires { ⌜ Priced (now sheet) (now table) at ⌝ }
     ensures { λ r. ⌜ r ≡ allSolved (cellsOf (now (sheet .entry))) (actionRead (drop at (now (sheet .entry))) .successors) ⌝ }
 {
@@ -185,7 +185,7 @@ pub fn action_at(sheet: &[u8], table: &[u32], state: usize, i: usize) -> usize
 }
 
 // Question 8 of one solved state.
-pub fn mark_earned(sheet: &[u8], table: &[u32], kind: u8, state: usize) -> bool
+fn mark_earned(sheet: &[u8], table: &[u32], kind: u8, state: usize) -> bool
     requires { ⌜ Within (now sheet) (now table) state ⌝ }
     requires { ⌜ Ordered (problemOf (now sheet)) kind ⌝ }
     requires { ⌜ ChosenExists (problemOf (now sheet)) (cellsOf (now sheet)) state ⌝ }
@@ -206,14 +206,7 @@ pub fn mark_earned(sheet: &[u8], table: &[u32], kind: u8, state: usize) -> bool
 }
 
 // A question of one state, the questions before it answered yes for the whole sheet.
-pub fn passes(
-    sheet: &[u8],
-    table: &[u32],
-    kind: u8,
-    n: usize,
-    state: usize,
-    question: Question,
-) -> bool
+fn passes(sheet: &[u8], table: &[u32], kind: u8, n: usize, state: usize, question: Question) -> bool
     requires { ⌜ Within (now sheet) (now table) state ⌝ }
     requires { ⌜ (n ≡ states (problemOf (now sheet))) × (kindOf kind ≡ problemOf (now sheet) .kind) ⌝ }
     requires { ⌜ Before question (problemOf (now sheet)) (cellsOf (now sheet)) ⌝ }
@@ -234,7 +227,7 @@ pub fn passes(
 }
 
 // A question of every state.
-pub fn all_pass(sheet: &[u8], table: &[u32], kind: u8, n: usize, question: Question) -> bool
+pub(crate) fn all_pass(sheet: &[u8], table: &[u32], kind: u8, n: usize, question: Question) -> bool
     requires { ⌜ (0 < n) × Within (now sheet) (now table) 0 ⌝ }
     requires { ⌜ (n ≡ states (problemOf (now sheet))) × (kindOf kind ≡ problemOf (now sheet) .kind) ⌝ }
     requires { ⌜ Before question (problemOf (now sheet)) (cellsOf (now sheet)) ⌝ }

@@ -20,7 +20,7 @@ pub struct Pricing {
 }
 
 // Two values joined: the larger on a worst sheet (kind 0), the sum on a whole one.
-pub fn join_two(kind: u8, x: u64, y: u64) -> u64
+fn join_two(kind: u8, x: u64, y: u64) -> u64
     requires { ⌜ x + y < 18446744073709551616 ⌝ }
     ensures { λ r. ⌜ (r ≡ join (kindOf kind) x y) × (r ≤ x + y) ⌝ }
 {
@@ -32,7 +32,7 @@ pub fn join_two(kind: u8, x: u64, y: u64) -> u64
 }
 
 // A number, cut to the ceiling.
-pub fn cut_off(x: u64) -> u32
+fn cut_off(x: u64) -> u32
     ensures { λ r. ⌜ (r ≡ cut x) × (r ≤ 1000000000) ⌝ }
 {
     if x < LONG_CEILING { x as u32 } else { CEILING }

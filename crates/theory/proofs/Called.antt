@@ -6,41 +6,61 @@ use mathlib.Core.List.{List, [], _∷_}
 use native.Mathlib.Omega.{arith}
 use lib.ListN.{length}
 use Rattle.model.specs.Problem.{Node, terminal, decision, Problem, Cell, states, nodeAt, cellOf, valueOf, solved}
-use Rattle.model.specs.Format.{write}
+use Rattle.model.specs.Format.{Bytes, write}
 use Rattle.model.specs.Read.{problemOf, cellsOf}
 use Rattle.model.specs.QValue.{ceiling}
 use Rattle.model.specs.Questions.{question2, refusal}
-use Rattle.model.specs.Ldfs.{work}
+use Rattle.model.specs.Ldfs.{Passes, work}
 use Rattle.model.specs.Optimal.{sumBelow}
 use Rattle.model.specs.Report.{cellsAfter, refused, finished, onRefusal, answerTo, bytesAfter}
-use Rattle.model.specs.Calls.{Call, after, afterAll, answers, raisesIn}
-use Rattle.layout.specs.Shape.{Bytes, NodeShaped}
+use Rattle.model.specs.Calls.{Call, callOf, callOn, Calls, none, one, left, raisesIn}
+use Rattle.layout.specs.Shape.{NodeShaped}
 use Rattle.layout.proofs.Shapes.{node-shaped}
 use Rattle.layout.proofs.Places.{write-length}
 use Rattle.layout.proofs.Stay.{FitsField, write-bytes}
 use Rattle.theory.specs.Consistent.{WellFormed, Consistent}
 use Rattle.theory.proofs.Leads.{solved-of}
-use Rattle.theory.proofs.Work.{work-does}
+use Rattle.theory.proofs.Work.{Worked, work-does}
 use Rattle.theory.proofs.Accepted.{asked-problem, asked-cells, still-asked}
 use Rattle.theory.proofs.Sheets.{Stands, stands-problem, stands-cells}
 
+-- the work of a call on the sheet s
+abbrev pub workOn : List ℕ → ℕ → Passes
+workOn s budget = work (problemOf s) (cellsOf s) budget
+
 -- What a call answers and leaves, by its refusal.
 module _ (s : List ℕ) (entries budget : ℕ) where
-  pub answer-worked : refusal s entries budget ≡ 0 → answerTo s entries budget ≡ finished (problemOf s) (work (problemOf s) (cellsOf s) budget)
+  pub answer-worked : refusal s entries budget ≡ 0 → answerTo s entries budget ≡ finished (problemOf s) budget (workOn s budget)
   unfolding answerTo onRefusal
   answer-worked e = rw e
 
-  pub bytes-worked : refusal s entries budget ≡ 0 → bytesAfter s entries budget ≡ write (problemOf s) (cellsAfter (work (problemOf s) (cellsOf s) budget))
+  pub bytes-worked : refusal s entries budget ≡ 0 → bytesAfter s entries budget ≡ write (problemOf s) (cellsAfter (workOn s budget))
   unfolding bytesAfter onRefusal
   bytes-worked e = rw e
 
-  pub answer-refused : (n : ℕ) → refusal s entries budget ≡ suc n → answerTo s entries budget ≡ refused (suc n)
+  pub answer-refused : (n : ℕ) → refusal s entries budget ≡ suc n → answerTo s entries budget ≡ refused budget (suc n)
   unfolding answerTo onRefusal
   answer-refused n e = rw e
 
   pub bytes-refused : (n : ℕ) → refusal s entries budget ≡ suc n → bytesAfter s entries budget ≡ s
   unfolding bytesAfter onRefusal
   bytes-refused n e = rw e
+
+  -- the answer has the budget that the call was given
+  pub budget-given : answerTo s entries budget .budget ≡ budget
+  budget-given = go (refusal s entries budget) refl
+    where
+      go : (n : ℕ) → refusal s entries budget ≡ n → answerTo s entries budget .budget ≡ budget
+      go zero e = rw (answer-worked e)
+      go (suc n) e = rw (answer-refused n e)
+
+  -- the call as its caller sees it
+  pub call-worked : refusal s entries budget ≡ 0 →
+      callOn s entries budget ≡ callOf (finished (problemOf s) budget (workOn s budget)) (bytesAfter s entries budget)
+  call-worked e = rw (answer-worked e)
+
+  pub call-refused : (n : ℕ) → refusal s entries budget ≡ suc n → callOn s entries budget ≡ callOf (refused budget (suc n)) s
+  call-refused n e = rw (answer-refused n e, bytes-refused n e)
 
 -- from some cells to others by so many raises
 pub record Kept (p : Problem) (cells cells′ : List Cell) (raises : ℕ) : Type 0 where
@@ -92,16 +112,27 @@ module _ (s : List ℕ) (p : Problem) (cells : List Cell) (h : Stands s p cells)
       fits : (t : ℕ) → FitsField (cellOf cells′ t)
       fits t = record { value = omega (arith, g .sound t .small); mark = omega (arith, g .sound t .mark); chosen = chosen-fits cells′ g t }
 
+  -- the work of one call, and what the bytes stand for after a call that is not refused
+  pub work-done : (budget : ℕ) → Worked p cells budget (work p cells budget)
+  work-done budget = work-does p wf cells budget (asked-cells p cells (h .asked))
+
+  pub worked-stands : (entries budget : ℕ) → refusal s entries budget ≡ 0 →
+      Stands (bytesAfter s entries budget) p (cellsAfter (work p cells budget))
+  worked-stands entries budget e =
+      rw (bytes-worked s entries budget e, stands-problem s p cells h, stands-cells s p cells h)
+      (rewritten _ (work-done budget .consistent))
+
   pub call-does : (entries budget : ℕ) → Called s p cells entries budget
   call-does entries budget = go (refusal s entries budget) refl
     where
       go : (n : ℕ) → refusal s entries budget ≡ n → Called s p cells entries budget
       go zero e =
-          let r = work-does p wf cells budget (asked-cells p cells (h .asked)) in
-          let a : answerTo s entries budget ≡ finished p (work p cells budget) = rw (answer-worked s entries budget e, stands-problem s p cells h, stands-cells s p cells h) in
+          let r = work-done budget in
+          let a : answerTo s entries budget ≡ finished p budget (work p cells budget) =
+          rw (answer-worked s entries budget e, stands-problem s p cells h, stands-cells s p cells h) in
           record {
             next = cellsAfter (work p cells budget);
-            stands = rw (bytes-worked s entries budget e, stands-problem s p cells h, stands-cells s p cells h) (rewritten (cellsAfter (work p cells budget)) (r .consistent));
+            stands = worked-stands entries budget e;
             kept = rw a (record { rises = r .rises; keeps = r .keeps; paid = r .paid });
             spent = λ _ o. rw a (r .spent o);
             few = rw a (r .few);
@@ -119,13 +150,14 @@ module _ (s : List ℕ) (p : Problem) (cells : List Cell) (h : Stands s p cells)
 -- what a list of calls does to it
 pub record CalledAll (s : List ℕ) (p : Problem) (cells : List Cell) (calls : List Call) : Type 0 where
   pub last : List Cell
-  pub stands : Stands (afterAll s calls) p last
-  pub kept : Kept p cells last (raisesIn (answers s calls))
+  pub stands : Stands (left s calls) p last
+  pub kept : Kept p cells last (raisesIn calls)
 
-pub calls-do : (s : List ℕ) (p : Problem) (cells : List Cell) → Stands s p cells → (calls : List Call) → CalledAll s p cells calls
-unfolding afterAll answers raisesIn
-calls-do s p cells h [] = record { last = cells; stands = h; kept = kept-all p cells }
-calls-do s p cells h (c ∷ more) =
-    let one = call-does s p cells h (length (c .table)) (c .budget) in
-    let rest = calls-do (after s c) p (one .next) (one .stands) more in
-    record { last = rest .last; stands = rest .stands; kept = kept-then (one .kept) (rest .kept) }
+pub calls-do : {s : List ℕ} {calls : List Call} → Calls s calls → (p : Problem) (cells : List Cell) → Stands s p cells →
+    CalledAll s p cells calls
+unfolding left raisesIn
+calls-do none p cells h = record { last = cells; stands = h; kept = kept-all p cells }
+calls-do (one {s} {more} entries budget made) p cells h =
+    let first = call-does s p cells h entries budget in
+    let rest = calls-do made p (first .next) (first .stands) in
+    record { last = rest .last; stands = rest .stands; kept = kept-then (first .kept) (rest .kept) }

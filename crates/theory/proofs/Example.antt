@@ -7,30 +7,36 @@ use mathlib.Core.List.{List, [], _∷_, map}
 use native.Mathlib.Omega.{arith}
 use borrow.Author.Tests.{ltb-true}
 use lib.Dec.{lit<, ltb}
-use lib.ListN.{length, getD, replicate, List·getD-eq-default}
+use lib.ListN.{length, getD, List·getD-eq-default}
 use Rattle.model.specs.Tests.{every, every-true}
 use Rattle.model.specs.Problem.{valueOf}
+use Rattle.model.specs.Format.{Bytes}
 use Rattle.model.specs.Read.{problemOf, cellsOf}
-use Rattle.model.specs.Report.{computing, numbers, largest}
-use Rattle.model.specs.Calls.{Call, afterAll, answers}
-use Rattle.model.specs.Demand3.{Accepted, Best, Demand3}
+use Rattle.model.specs.Report.{computing, bytesAfter, largest}
+use Rattle.model.specs.Calls.{Call, callOn, Calls, none, one, left}
+use Rattle.model.specs.Demands.{Accepted, Best, Demand3}
 use Rattle.model.specs.Rows.{sheetA}
-use Rattle.layout.specs.Shape.{Bytes}
 use Rattle.theory.proofs.Basics.{lt-or-le}
-use Rattle.theory.proofs.Demand.{demand3}
+use Rattle.theory.proofs.Demands.{demand3}
 
 -- budget 2, then a table that is too short, then budget 0, then the largest
+abbrev worked : List ℕ
+worked = bytesAfter sheetA 1024 2
+
 abbrev pub callsA : List Call
-callsA =
-    record { table = replicate 1024 7; budget = 2 }
-    ∷ record { table = []; budget = 2 }
-    ∷ record { table = replicate 1100 0; budget = 0 }
-    ∷ record { table = replicate 1024 0; budget = largest }
-    ∷ []
+callsA = callOn sheetA 1024 2 ∷ callOn worked 0 2 ∷ callOn worked 1100 0 ∷ callOn worked 1024 largest ∷ []
+
+pub made-A : Calls sheetA callsA
+unfolding computing
+made-A = one 1024 2 (one 0 2 (one 1100 0 (one 1024 largest none)))
 
 -- what they answer: stopped, refused 1, refused 9, settled
-pub answers-A : map numbers (answers sheetA callsA) ≡ (102 ∷ 200 ∷ 2 ∷ 2 ∷ []) ∷ (1 ∷ 0 ∷ 0 ∷ 0 ∷ []) ∷ (9 ∷ 0 ∷ 0 ∷ 0 ∷ []) ∷ (100 ∷ 500 ∷ 2 ∷ 1 ∷ []) ∷ []
-unfolding computing answers
+abbrev numbersOf : Call → List ℕ
+numbersOf c = c .number ∷ c .price ∷ c .passes ∷ c .raises ∷ c .budget ∷ []
+
+pub answers-A : map numbersOf callsA ≡
+    (102 ∷ 200 ∷ 2 ∷ 2 ∷ 2 ∷ []) ∷ (1 ∷ 0 ∷ 0 ∷ 0 ∷ 2 ∷ []) ∷ (9 ∷ 0 ∷ 0 ∷ 0 ∷ 0 ∷ []) ∷ (100 ∷ 500 ∷ 2 ∷ 1 ∷ largest ∷ []) ∷ []
+unfolding computing
 answers-A = refl
 
 -- bytes, by a computed test
@@ -46,13 +52,13 @@ unfolding computing
 accepted-A = record { bytes = tested sheetA refl; yes = refl }
 
 pub demand-A : Demand3 sheetA callsA
-demand-A = demand3 sheetA accepted-A callsA
+demand-A = demand3 accepted-A made-A
 
 -- the last part of demand 3 speaks: the start is settled below the ceiling, at 500
-pub price-A : valueOf (cellsOf (afterAll sheetA callsA)) 0 ≡ 500
-unfolding computing afterAll
+pub price-A : valueOf (cellsOf (left sheetA callsA)) 0 ≡ 500
+unfolding computing left
 price-A = refl
 
-pub best-A : Best (problemOf sheetA) (cellsOf (afterAll sheetA callsA))
-unfolding computing afterAll
+pub best-A : Best (problemOf sheetA) (cellsOf (left sheetA callsA))
+unfolding computing left
 best-A = demand-A .best refl (lit< tt)

@@ -8,9 +8,11 @@ pub mod Leads
 pub mod Visits
 pub mod Work
 pub mod Accepted
+pub mod Refusals
 pub mod Sheets
 pub mod Called
+pub mod Outcomes
 pub mod Promises
-pub mod Demand
+pub mod Demands
 pub mod Example
 pub mod Turns

@@ -23,7 +23,7 @@ place-requires c κs =
 
 clear-requires : tie.Need-clear-requires
 clear-requires c κs =
-    let h = accepted-head (c .before .before .before .before .before .before .before .before .before .before .before .args .sheet .now) (c .before .before .before .before .before .before .before .before .before .before .before .args .table .now) (c .before .before .before .before .before .before .before .before .if1 .left) _ (c .before .before .before .before .before .before .first-no .ensures .0) (c .before .before .before .if2 .taken) (λ i. c .before .before .before .before .before .before .before .before .before .before .shared-slice-known .given i .fits) _ (c .before .place .ensures .0 ∙ c .before .before .get16 .ensures .0) in omega (arith, h .1, c .before .before .before .before .before .before .before .before .if1 .left, c .before .before .before .before .before .table .given)
+    search needs
 
 clear-requires-2 : tie.Need-clear-requires-2
 clear-requires-2 c κs =

@@ -1,4 +1,4 @@
-use Prim.Native.Nat.{_-_, _≤_}
+use Prim.Native.Nat.{_-_, _≤_, max}
 use mathlib.Core.Path.{_≡_, refl}
 use mathlib.Core.List.{_++_, append-nil}
 use native.Mathlib.Omega.{arith}
@@ -9,14 +9,17 @@ use Rattle.questions.proofs.clear.Statement.{statement}
 use Rattle.questions.proofs.clear.Tie as tie
 
 abbrev Inv-loop : tie.InvT-loop
-Inv-loop table₀ from i₀ table i = (from ≤ i) × (i ≤ length table) × (length table ≡ length table₀) × (take i table ≡ take from table₀ ++ replicate (i - from) 0)
+Inv-loop table₀ from i₀ table i =
+    (from ≤ i) × (i ≤ max from (length table)) × (length table ≡ length table₀)
+    × (take i table ≡ take from table₀ ++ replicate (i - from) 0)
 
 abbrev μ-loop : tie.MeasureT-loop
 μ-loop table₀ from i₀ table i = length table - i
 
 loop-holds : tie.Need-loop-holds Inv-loop μ-loop
 loop-holds c =
-    let z : c .args .from - c .args .from ≡ 0 = omega arith in (omega arith, c .pre, refl, rw (z, append-nil (take (c .args .from) (c .args .table .now))))
+    let z : c .args .from - c .args .from ≡ 0 = omega arith in
+    (omega arith, omega arith, refl, rw (z, append-nil (take (c .args .from) (c .args .table .now))))
 
 mul-table : tie.Need-mul-table Inv-loop μ-loop
 mul-table c = search needs
@@ -33,11 +36,11 @@ loop-less c =
 
 loop-again : tie.Need-loop-again Inv-loop μ-loop
 loop-again c =
-    let L = c .before .loop in (
+    let L = c .before .loop in let a = c .before .before .args in (
       omega (arith, L .inv .0),
       simp length-set (omega arith),
       simp length-set (L .inv .2),
-      cleared-more (c .before .before .args .table .now) (L .table) (c .before .before .args .from) (L .i) (L .inv .0) (c .loop-test .taken) (L .inv .3),
+      cleared-more (a .table .now) (L .table) (a .from) (L .i) (L .inv .0) (omega arith) (L .inv .3),
     )
 
 same-length : tie.Need-same-length Inv-loop μ-loop

@@ -1,3 +1,4 @@
+use native.Mathlib.Omega.{arith}
 use borrow.Author.Needs.{needs}
 use Rattle.questions.proofs.Reading.{action-low, action-high, action-even, action-odd}
 use Rattle.questions.proofs.stages.action_fits.Statement.{statement}
@@ -12,7 +13,8 @@ returns c =
 
 returns-2 : tie.Need-returns-2
 returns-2 c =
-    let st = c .before .before .before .before in action-high (st .args .s .now) (st .args .at) (c .before .before .content-at .result) (st .pre .0) (c .before .before .content-at .ensures .0) (c .before .if1 .left) (c .if2 .taken)
+    let st = c .before .before .before .before in let n = c .before .before .content-at in
+    action-high (st .args .s .now) (st .args .at) (n .result) (st .pre .0) (n .ensures .0) (c .before .if1 .left) (omega arith)
 
 add-result : tie.Need-add-result
 add-result c = search needs

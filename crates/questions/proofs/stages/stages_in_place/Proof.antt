@@ -13,7 +13,7 @@ abbrev Inv-loop : tie.InvT-loop
 Inv-loop s table states at₀ i n₀ at n = Checking s at₀ at n
 
 abbrev μ-loop : tie.MeasureT-loop
-μ-loop s table states at₀ i n₀ at n = 16 - n
+μ-loop s table states at₀ i n₀ at n = 17 - n
 
 abbrev Inv-stages : tie.InvT-stages
 Inv-stages s table₀ states at₀ i₀ table at i = Staging s table₀ states table at i
@@ -105,7 +105,7 @@ add-at-4 c =
 
 loop-less : tie.Need-loop-less Inv-loop μ-loop Inv-stages μ-stages
 loop-less c =
-    omega (arith, c .before .before .before .before .before .before .loop .inv .upto, c .before .before .before .if6 .left)
+    omega (arith, c .before .before .before .before .before .before .loop .inv .upto)
 
 loop-again : tie.Need-loop-again Inv-loop μ-loop Inv-stages μ-stages
 loop-again c =

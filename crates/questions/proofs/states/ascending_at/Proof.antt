@@ -29,11 +29,14 @@ successor-requires c κs =
 
 returns : tie.Need-returns Inv-loop μ-loop
 returns c =
-    let L = c .before .before .before .loop in not-above _ (L .j) (c .before .successor .result) (omega (arith, c .before .before .before .before .successor-count .ensures .0)) (c .before .successor .ensures .0) (L .last) _ (c .if1 .taken) ∙ sym (L .inv .1)
+    let L = c .before .before .before .loop in let m = c .before .before .before .before .successor-count in let t = c .before .successor in
+    not-above _ (L .j) (t .result) (omega (arith, m .ensures .0)) (t .ensures .0) (L .last) _ (omega arith) ∙ sym (L .inv .1)
 
 returns-2 : tie.Need-returns-2 Inv-loop μ-loop
 returns-2 c =
-    let L = c .before .before .before .before .loop in not-below _ (L .j) (c .before .before .successor .result) (omega (arith, c .before .before .before .before .before .successor-count .ensures .0)) (c .before .before .successor .ensures .0) (L .last) _ (c .before .if1 .left) (c .if2 .taken) ∙ sym (L .inv .1)
+    let at-loop = c .before .before .before .before in let L = at-loop .loop in let m = at-loop .before .successor-count in
+    let t = c .before .before .successor in
+    not-below _ (L .j) (t .result) (omega (arith, m .ensures .0)) (t .ensures .0) (L .last) _ (c .if2 .taken) ∙ sym (L .inv .1)
 
 add-j : tie.Need-add-j Inv-loop μ-loop
 add-j c = search needs
