@@ -1,4 +1,7 @@
 // Prices the sheet on standard input, and writes its listing on standard output: document 01, "What the price program prints".
+ghost use Prim.Native.Nat.{_≤_};
+ghost use lib.ListN.{length};
+ghost use Rattle.io.specs.Counts.{Counts};
 use libc::STDIN_FILENO;
 use libc::STDOUT_FILENO;
 use listing::ENOUGH;
@@ -29,9 +32,49 @@ fn price(sheet: &mut [u8]) {
     }
 }
 
-// One byte more is read than a sheet may have, so that a longer one is refused. A read that fails leaves a part of a sheet, which is refused too.
+// What became of the input: the number of bytes that were read, and whether a read failed.
+struct Input {
+    count: usize,
+    failed: bool,
+}
+
+// Reads until the buffer is full, the input ends, or a read fails, which it says on standard error.
+fn read(buf: &mut [u8]) -> Input
+    ensures { λ r. ⌜ Counts (r .count) (now (buf .exit)) ⌝ }
+{
+    let mut count: usize = 0;
+    while count < buf.len() {
+        let got = libc::read(STDIN_FILENO, &mut buf[count..]);
+        if got < 0 {
+            os::fail(b"price: standard input");
+            return Input {
+                count,
+                failed: true,
+            };
+        }
+        let more = io::count(got, &buf[count..]);
+        if more == 0 {
+            return Input {
+                count,
+                failed: false,
+            };
+        }
+        count += more;
+    }
+    Input {
+        count,
+        failed: false,
+    }
+}
+
+// One byte more is read than a sheet may have, so that a longer one is refused. Where a read fails, nothing is priced: what was read may
+// be a part of a sheet, or a sheet that more bytes would follow.
 fn main() {
     let mut sheet = [0u8; MAX_BYTES + 1];
-    let n = io::read_full(STDIN_FILENO, &mut sheet);
-    price(&mut sheet[..n]);
+    let input = read(&mut sheet);
+    let n = input.count;
+    let failed = input.failed;
+    if !failed {
+        price(&mut sheet[..n]);
+    }
 }
