@@ -69,10 +69,10 @@ module _ (s t : List ℕ) (budget : ℕ) (r : List ℕ) {k : ℕ} {s′ t′ r�
           rw (m .0, m .1 .0, m .1 .1 .1, e, unreported r 0 e, unreported r 8 e, unreported r 16 e)
           (sym (call-refused s 0 budget 0 (refused-short s budget 0 (omega arith))))
 
-  pub host-answers : Demand1 s (hostEntries t r) (hostCall budget k s′ r′)
+  pub host-answers : Demand1 s (hostEntries t r) budget (hostCall budget k s′ r′)
   host-answers = rw hosted-call (demand1 s (hostEntries t r) budget)
 
-  pub host-prices : Demand2 s (hostEntries t r) (hostCall budget k s′ r′)
+  pub host-prices : Demand2 s (hostEntries t r) budget (hostCall budget k s′ r′)
   host-prices = rw hosted-call (demand2 s bytes (hostEntries t r) budget)
 
 -- Any calls on an accepted sheet are calls in demand 3's sense.

@@ -18,11 +18,11 @@ module _ (s t : List ℕ) (budget : ℕ) {s′ t′ : List ℕ} {r : Answer} (m 
   solved-call = rw (m .0, m .1 .0)
 
   -- Demand 1
-  pub solve-answers : Demand1 s (length t) (callOf r s′)
+  pub solve-answers : Demand1 s (length t) budget (callOf r s′)
   solve-answers = rw solved-call (demand1 s (length t) budget)
 
   -- Demand 2
-  pub solve-prices : Bytes s → Demand2 s (length t) (callOf r s′)
+  pub solve-prices : Bytes s → Demand2 s (length t) budget (callOf r s′)
   solve-prices bytes = rw solved-call (demand2 s bytes (length t) budget)
 
 -- Demand 3, of any calls on an accepted sheet

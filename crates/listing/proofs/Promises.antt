@@ -21,7 +21,7 @@ use Rattle.model.specs.Demands.{startCost}
 use Rattle.theory.specs.Consistent.{WellFormed}
 use Rattle.theory.proofs.Refusals.{first-refuses}
 use Rattle.theory.proofs.Sheets.{accepted-stands}
-use Rattle.theory.proofs.Called.{answer-refused, budget-given}
+use Rattle.theory.proofs.Called.{answer-refused}
 use Rattle.theory.proofs.Promises.{problem-of, still-a-sheet, raises-small}
 use Rattle.theory.proofs.Outcomes.{numbered}
 use Rattle.theory.proofs.Demands.{demand2, worked-accepted}
@@ -140,4 +140,4 @@ module _ (s : List ℕ) (bytes : Bytes s) (entries : ℕ) where
   -- it never prints `stopped`
   pub never-stopped : number (answer .outcome) ≡ 102 → ⊥
   never-stopped e =
-      omega (arith, demand2 s bytes entries largest .stopped e .spent, budget-given s entries largest, raises-small s bytes entries largest)
+      let d = demand2 s bytes entries largest in omega (arith, d .stopped e .spent, d .given, raises-small s bytes entries largest)

@@ -34,20 +34,19 @@ pub record Best (p : Problem) (cells : List Cell) : Type 0 where
   pub costs : policyCost p (written cells) (p .start) ≡ valueOf cells (p .start)
   pub least : (π : Policy) → Closed p π (p .start) → policyCost p (written cells) (p .start) ≤ policyCost p π (p .start)
 
--- Demand 1, of a call c on the bytes s with a table of so many entries: it was refused by the first question whose answer is no, and left
--- the bytes unaltered; or every answer is yes, and it ended settled (100), over (101) or stopped (102).
-pub data Demand1 (s : List ℕ) (entries : ℕ) (c : Call) : Type 0 where
-  refused : (i : ℕ) → First (questions s entries (c .budget)) i → c .number ≡ suc i →
-      (c .price ≡ 0) × (c .passes ≡ 0) × (c .raises ≡ 0) → c .bytes ≡ s → Demand1 s entries c
-  worked : ((i : ℕ) → answerAt (questions s entries (c .budget)) i ≡ true) →
-      (c .number ≡ 100) ⊎ ((c .number ≡ 101) ⊎ (c .number ≡ 102)) → Demand1 s entries c
+-- Demand 1, of a call c on the bytes s with a table of so many entries and a budget: it was refused by the first question whose answer is
+-- no, and left the bytes unaltered; or every answer is yes, and it ended settled (100), over (101) or stopped (102).
+pub data Demand1 (s : List ℕ) (entries budget : ℕ) (c : Call) : Type 0 where
+  refused : (i : ℕ) → First (questions s entries budget) i → c .number ≡ suc i →
+      (c .price ≡ 0) × (c .passes ≡ 0) × (c .raises ≡ 0) → c .bytes ≡ s → Demand1 s entries budget c
+  worked : ((i : ℕ) → answerAt (questions s entries budget) i ≡ true) →
+      (c .number ≡ 100) ⊎ ((c .number ≡ 101) ⊎ (c .number ≡ 102)) → Demand1 s entries budget c
 
--- a settled call: the price is the least cost of the start, below the ceiling; the start is marked with it, and its plan is best
+-- a settled call: the price is the least cost of the start, below the ceiling; the start is marked, and its plan is best
 pub record SettledAt (s : List ℕ) (c : Call) : Type 0 where
   pub price : c .price ≡ startCost s
   pub below : c .price < ceiling
   pub marked : solved (startCell s (c .bytes)) ≡ true
-  pub value : startCell s (c .bytes) .value ≡ c .price
   pub best : Best (problemOf s) (cellsOf (c .bytes))
 
 -- a call that is over: the price is the ceiling, the least cost is that or more, and the start is marked
@@ -61,16 +60,20 @@ pub record StoppedAt (s : List ℕ) (c : Call) : Type 0 where
   pub spent : c .raises ≡ c .budget
   pub still-open : solved (startCell s (c .bytes)) ≡ false
 
--- Demand 2, of a call c on the bytes s with a table of so many entries
-pub record Demand2 (s : List ℕ) (entries : ℕ) (c : Call) : Type 0 where
+-- Demand 2, of a call c on the bytes s with a table of so many entries and a budget
+pub record Demand2 (s : List ℕ) (entries budget : ℕ) (c : Call) : Type 0 where
   -- it was refused exactly where some question is answered no
-  pub refused-for : c .number ≤ 9 → (i : ℕ) × (answerAt (questions s entries (c .budget)) i ≡ false)
-  pub refused-where : (i : ℕ) → answerAt (questions s entries (c .budget)) i ≡ false → c .number ≤ 9
+  pub refused-for : c .number ≤ 9 → (i : ℕ) × (answerAt (questions s entries budget) i ≡ false)
+  pub refused-where : (i : ℕ) → answerAt (questions s entries budget) i ≡ false → c .number ≤ 9
   -- what each outcome says
   pub settled : c .number ≡ 100 → SettledAt s c
   pub over : c .number ≡ 101 → OverAt s c
   pub stopped : c .number ≡ 102 → StoppedAt s c
-  -- passes are at most raises plus 1
+  -- the price of a call that was not refused is the value that it left at the start
+  pub price-is-value : 100 ≤ c .number → c .price ≡ startCell s (c .bytes) .value
+  -- the allowance in the answer is the one that was given, raises do not go beyond it, and passes are at most raises plus 1
+  pub given : c .budget ≡ budget
+  pub raises-within : c .raises ≤ budget
   pub passes-few : c .passes ≤ suc (c .raises)
 
 -- Demand 3, of a sheet whose bytes were s at the outset and a list of calls on it, refused ones included; the list may be empty

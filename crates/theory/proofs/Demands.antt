@@ -29,10 +29,10 @@ use Rattle.theory.proofs.Promises.{problem-of, cells-of, raises-gaps}
 use Rattle.theory.proofs.Outcomes.{OutcomeSays, outcome-says}
 
 -- Demand 1, of any bytes, a table of any number of entries and any budget
-pub demand1 : (s : List ℕ) (entries budget : ℕ) → Demand1 s entries (callOn s entries budget)
+pub demand1 : (s : List ℕ) (entries budget : ℕ) → Demand1 s entries budget (callOn s entries budget)
 demand1 s entries budget = go (refusal s entries budget) refl
   where
-    go : (n : ℕ) → refusal s entries budget ≡ n → Demand1 s entries (callOn s entries budget)
+    go : (n : ℕ) → refusal s entries budget ≡ n → Demand1 s entries budget (callOn s entries budget)
     go zero e = rw (call-worked s entries budget e) (worked (unrefused-yes s entries budget e) (outcome-says _ .some))
     go (suc k) e = rw (call-refused s entries budget k e) (refused k (refused-first s entries budget k e) refl (refl, refl, refl) refl)
 
@@ -57,7 +57,7 @@ startLeft s budget = cellOf (cellsLeft s budget) (problemOf s .start)
 
 -- demand 2 of a call that is refused
 refused-right : (s : List ℕ) (entries budget k : ℕ) → refusal s entries budget ≡ suc k →
-    Demand2 s entries (callOf (refusedAnswer budget (suc k)) s)
+    Demand2 s entries budget (callOf (refusedAnswer budget (suc k)) s)
 refused-right s entries budget k e =
     let few = refused-small s entries budget k e in
     record {
@@ -66,6 +66,9 @@ refused-right s entries budget k e =
       settled = λ z. absurd (omega arith);
       over = λ z. absurd (omega arith);
       stopped = λ z. absurd (omega arith);
+      price-is-value = λ z. absurd (omega arith);
+      given = refl;
+      raises-within = omega arith;
       passes-few = omega arith;
     }
 
@@ -86,7 +89,7 @@ module _ (s : List ℕ) (entries budget : ℕ) (e : refusal s entries budget ≡
   start-optimal : solved (startLeft s budget) ≡ true → startLeft s budget .value ≡ cut (startCost s)
   start-optimal = solved-optimal (problemOf s) (problem-of h) (cellsLeft s budget) (cells-of after) (problemOf s .start)
 
-  worked-right : Demand2 s entries (callOf (finished (problemOf s) budget (workOn s budget)) (bytesAfter s entries budget))
+  worked-right : Demand2 s entries budget (callOf (finished (problemOf s) budget (workOn s budget)) (bytesAfter s entries budget))
   worked-right = record {
     refused-for = λ few. absurd (above few (says .some));
     refused-where = λ i no. clash (unrefused-yes s entries budget e i) no;
@@ -94,12 +97,14 @@ module _ (s : List ℕ) (entries budget : ℕ) (e : refusal s entries budget ≡
       price = omega (arith, o .1, start-optimal (o .0));
       below = o .1;
       marked = rw end (o .0);
-      value = rw end;
       best = rw end (best-plan _ (problemOf s) (cellsLeft s budget) after (o .0) (o .1));
     };
     over = λ n. let o = says .over n in let v = start-optimal (o .0) in
         record { price = omega (arith, o .1); above = omega (arith, o .1); marked = rw end (o .0) };
     stopped = λ n. let o = says .stopped n in record { spent = done .spent o; still-open = rw end o };
+    price-is-value = λ _. rw end;
+    given = refl;
+    raises-within = done .within;
     passes-few = done .few;
   }
     where
@@ -109,10 +114,10 @@ module _ (s : List ℕ) (entries budget : ℕ) (e : refusal s entries budget ≡
       above few (inr (inr z)) = omega arith
 
 -- Demand 2, of any bytes, a table of any number of entries and any budget
-pub demand2 : (s : List ℕ) → Bytes s → (entries budget : ℕ) → Demand2 s entries (callOn s entries budget)
+pub demand2 : (s : List ℕ) → Bytes s → (entries budget : ℕ) → Demand2 s entries budget (callOn s entries budget)
 demand2 s bytes entries budget = go (refusal s entries budget) refl
   where
-    go : (n : ℕ) → refusal s entries budget ≡ n → Demand2 s entries (callOn s entries budget)
+    go : (n : ℕ) → refusal s entries budget ≡ n → Demand2 s entries budget (callOn s entries budget)
     go zero e =
         rw (call-worked s entries budget e) (worked-right s entries budget e (accepted-stands s bytes (unrefused s entries budget e)))
     go (suc k) e = rw (call-refused s entries budget k e) (refused-right s entries budget k e)
