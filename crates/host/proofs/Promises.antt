@@ -1,6 +1,6 @@
 -- The promises of `ldfs_solve`: the demands of its calls, by the number returned and the bytes of its slices. docs/HOST.md cites them.
-use Prim.Native.Nat.{ℕ, _+_, _*_, _^_, _/_, _%_, _<_, _≤_}
-use mathlib.Core.Path.{_≡_, refl, sym, ap, subst, _∙_}
+use Prim.Native.Nat.{ℕ, _^_, _/_, _%_, _<_}
+use mathlib.Core.Path.{_≡_, refl, sym, ap, subst}
 use mathlib.Core.Bool.{Bool, true, false}
 use mathlib.Core.List.{List, _∷_, _++_}
 use native.Mathlib.Omega.{arith}
@@ -16,7 +16,7 @@ use Rattle.layout.proofs.Bytes.{four}
 use Rattle.theory.proofs.Called.{budget-given, call-refused}
 use Rattle.theory.proofs.Promises.{raises-small, still-a-sheet}
 use Rattle.theory.proofs.Demands.{demand1, demand2, demand3, price-small}
-use Rattle.host.specs.Host.{le32, le64, entries, room, hostNumber, hostSheet, hostTable, hostResult}
+use Rattle.host.specs.Host.{le32, le64, entries, room, hostNumber, hostSheet, hostResult}
 use Rattle.host.specs.HostCalls.{readLe32, readLe64, reported, hostCall, hostEntries, Hosted, HostedAll, none, one}
 use Rattle.host.proofs.Hosted.{refused-short}
 

@@ -1,15 +1,28 @@
--- The promises of the code, in one place: the demands of calls of `solve`.
-use Prim.Native.Nat.{ℕ}
-use mathlib.Core.Path.{_≡_, sym, subst}
+-- The promises of the code, in one place: the verdict of `check`, and the demands of calls of `solve`.
+use Prim.Native.Nat.{ℕ, zero, suc}
+use mathlib.Core.Path.{_≡_, refl, sym, subst}
 use mathlib.Core.List.{List, _∷_}
 use lib.ListN.{length}
 use Rattle.model.specs.declared.Answer.{Answer}
 use Rattle.model.specs.Format.{Bytes}
-use Rattle.model.specs.Report.{bytesAfter}
+use Rattle.model.specs.Questions.{checkQuestions, sheetRefusal}
 use Rattle.model.specs.Calls.{Call, callOf, callOn, Calls, none as no-call, one as one-call}
 use Rattle.model.specs.Demands.{Accepted, Demand1, Demand2, Demand3}
+use Rattle.theory.proofs.Refusals.{first-is, none-is}
 use Rattle.theory.proofs.Demands.{demand1, demand2, demand3}
+use Rattle.questions.specs.declared.Verdict.{Verdict}
+use Rattle.questions.specs.Verdicts.{verdictNumber, verdict, VerdictSays, accepted, refused, verdict-number}
 use Rattle.ldfs.specs.Made.{Solved, SolvedAll, none, one}
+
+-- The verdict of `check`, by what its contract ensures, in document 01's number.
+pub check-answers : (s : List ℕ) (entries : ℕ) {v : Verdict} → v ≡ verdict (sheetRefusal s entries) →
+    VerdictSays s entries (verdictNumber v)
+unfolding sheetRefusal
+check-answers s entries e = rw (e, verdict-number) (go (sheetRefusal s entries) refl)
+  where
+    go : (n : ℕ) → sheetRefusal s entries ≡ n → VerdictSays s entries n
+    go zero z = accepted (none-is (checkQuestions s entries) z) refl
+    go (suc k) z = refused k (first-is (checkQuestions s entries) k z) refl
 
 -- One call, on the bytes s with the table t and a budget, that returned r and left the bytes s′ and the table t′.
 module _ (s t : List ℕ) (budget : ℕ) {s′ t′ : List ℕ} {r : Answer} (m : Solved s t budget r s′ t′) where

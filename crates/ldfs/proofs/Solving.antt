@@ -14,7 +14,8 @@ use Rattle.model.specs.Problem.{Problem, Cell, states, cellOf, valueOf, solved}
 use Rattle.model.specs.Format.{Bytes, be16, offset, write}
 use Rattle.model.specs.Read.{problemOf, cellsOf}
 use Rattle.model.specs.QValue.{ceiling}
-use Rattle.model.specs.Questions.{maxStates, question1, question9, Question, sheetQuestions, firstNo, sheetRefusal, refusal, accepted, AllYes, none-no, all-yes}
+use Rattle.model.specs.Questions.{maxStates, question1, question9, Question, sheetQuestions, checkQuestions, firstNo, sheetRefusal}
+use Rattle.model.specs.Questions.{refusal, accepted, AllYes, none-no, all-yes}
 use Rattle.model.specs.Ldfs.{Search, searchOf, work}
 use Rattle.model.specs.Report.{outcomeOf, cellsAfter, raisesOf, refused, onRefusal, answerTo, bytesAfter, indexTable, refusedTable, checkedTable, tableAfter}
 use Rattle.layout.proofs.Index.{offsets-count}
@@ -121,7 +122,7 @@ module _ (s t : List ℕ) (budget : ℕ) where
       go zero z v = let f : _≡_ {A = ℕ} 0 1 = cc in absurd (omega arith)
       go (suc k) z v =
           let same : n ≡ suc k = cc in
-          let no = refused-more 1 ((λ _. question1 (length t)) ∷ sheetQuestions s) ((λ _. question9 budget) ∷ []) k z in
+          let no = refused-more 1 (checkQuestions s (length t)) ((λ _. question9 budget) ∷ []) k z in
           refused-call k no r (a ∙ ap (refused budget) same) t′ (last ∙ rw z)
 
   -- accepted by questions 1 to 8
@@ -134,9 +135,9 @@ module _ (s t : List ℕ) (budget : ℕ) where
         go zero v = refl
         go (suc k) v = let f : _≡_ {A = ℕ} 0 1 = cc in absurd (omega arith)
 
-    yes : AllYes ((λ _. question1 (length t)) ∷ sheetQuestions s)
+    yes : AllYes (checkQuestions s (length t))
     unfolding sheetRefusal
-    yes = none-no 0 ((λ _. question1 (length t)) ∷ sheetQuestions s) none
+    yes = none-no 0 (checkQuestions s (length t)) none
 
     stands : Stands s (problemOf s) (cellsOf s)
     unfolding accepted

@@ -124,9 +124,13 @@ sheetQuestions s =
     ∷ (λ _. question8 (problemOf s) (cellsOf s))
     ∷ []
 
--- the nine questions of a call with a table of so many entries and a budget, in order
+-- questions 1 to 8, of a sheet with a table of so many entries
+abbrev pub checkQuestions : List ℕ → ℕ → List Question
+checkQuestions s entries = (λ _. question1 entries) ∷ sheetQuestions s
+
+-- the nine questions of a call with a budget, in order
 abbrev pub questions : List ℕ → ℕ → ℕ → List Question
-questions s entries budget = (λ _. question1 entries) ∷ sheetQuestions s ++ ((λ _. question9 budget) ∷ [])
+questions s entries budget = checkQuestions s entries ++ ((λ _. question9 budget) ∷ [])
 
 -- the number of the first of some questions, numbered from n, whose answer is no; 0 where there is none
 unfoldable pub firstNo : ℕ → List Question → ℕ
@@ -135,7 +139,7 @@ firstNo n (ask ∷ more) = fork (ask tt) (λ _. firstNo (suc n) more) (λ _. n)
 
 -- the refusal of a sheet with a table of so many entries, by questions 1 to 8; 0 where there is none
 unfoldable pub sheetRefusal : List ℕ → ℕ → ℕ
-sheetRefusal s entries = firstNo 1 ((λ _. question1 entries) ∷ sheetQuestions s)
+sheetRefusal s entries = firstNo 1 (checkQuestions s entries)
 
 -- the refusal of a call on a sheet, with a table of so many entries and a budget; 0 where there is none
 unfoldable pub refusal : List ℕ → ℕ → ℕ → ℕ

@@ -1,6 +1,4 @@
 // Prices the sheet on standard input, and writes its listing on standard output: document 01, "What the price program prints".
-ghost use Prim.Native.Nat.{_≤_};
-ghost use lib.ListN.{length};
 ghost use Rattle.io.specs.Counts.{Counts};
 use libc::STDIN_FILENO;
 use libc::STDOUT_FILENO;

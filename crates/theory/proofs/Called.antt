@@ -2,9 +2,8 @@
 use Prim.Native.Nat.{ℕ, zero, suc, _+_, _<_, _≤_}
 use mathlib.Core.Path.{_≡_, refl, _∙_, subst}
 use mathlib.Core.Bool.{Bool, true, false}
-use mathlib.Core.List.{List, [], _∷_}
+use mathlib.Core.List.{List}
 use native.Mathlib.Omega.{arith}
-use lib.ListN.{length}
 use Rattle.model.specs.Problem.{Node, terminal, decision, Problem, Cell, states, nodeAt, cellOf, valueOf, solved}
 use Rattle.model.specs.Format.{Bytes, write}
 use Rattle.model.specs.Read.{problemOf, cellsOf}

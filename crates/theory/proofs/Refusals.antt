@@ -40,11 +40,18 @@ first-no n (ask ∷ more) k h = go (ask tt) refl (first-no (suc n) more k)
         before i f (suc j) l = f .yes-before j (omega arith)
     go false e ih = let z : suc n ≡ suc k = rw e at h in (0, omega arith, record { no = e; yes-before = λ j l. absurd (omega arith) })
 
+-- of questions numbered from 1: the first whose answer is no, and all of them where there is none
+pub first-is : (asked : List Question) (k : ℕ) → firstNo 1 asked ≡ suc k → First asked k
+first-is asked k e = let f = first-no 0 asked k e in let at : f .0 ≡ k = omega (arith, f .1) in rw at at (f .2)
+
+pub none-is : (asked : List Question) → firstNo 1 asked ≡ 0 → (i : ℕ) → answerAt asked i ≡ true
+none-is asked e = all-answered asked (none-no 0 asked e)
+
 module _ (s : List ℕ) (entries budget : ℕ) where
   -- a refusal is by the first question whose answer is no
   pub refused-first : (k : ℕ) → refusal s entries budget ≡ suc k → First (questions s entries budget) k
   unfolding refusal
-  refused-first k e = let f = first-no 0 (questions s entries budget) k e in let at : f .0 ≡ k = omega (arith, f .1) in rw at at (f .2)
+  refused-first = first-is (questions s entries budget)
 
   pub refused-small : (k : ℕ) → refusal s entries budget ≡ suc k → k < 9
   refused-small k e = omega (arith, answered-within (questions s entries budget) k (refused-first k e .no))
@@ -52,7 +59,7 @@ module _ (s : List ℕ) (entries budget : ℕ) where
   -- where there is none, every answer is yes
   pub unrefused-yes : refusal s entries budget ≡ 0 → (i : ℕ) → answerAt (questions s entries budget) i ≡ true
   unfolding refusal
-  unrefused-yes e = all-answered (questions s entries budget) (none-no 0 (questions s entries budget) e)
+  unrefused-yes = none-is (questions s entries budget)
 
   -- the first question whose answer is no is the refusal
   pub first-refuses : (i : ℕ) → First (questions s entries budget) i → refusal s entries budget ≡ suc i
