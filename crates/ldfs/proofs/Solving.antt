@@ -61,6 +61,7 @@ module _ (s : List ℕ) (budget : ℕ) {t s′ : List ℕ} {w : PassesMade} (d :
   begun-made : work (problemOf s) (cellsOf s) budget .begun ≡ w .begun
   begun-made = rw (← d .said)
 
+  -- the answer that has an outcome, a price, and the passes and raises of the work
   abbrev answered : Outcome → ℕ → Answer
   answered o price = record { outcome = o; price = price; passes = w .begun; raises = w .raises; budget = budget }
 
