@@ -36,7 +36,8 @@ hosted-A =
 
 -- what they answer, as the bytes report it
 pub answers-A : map (λ (c : Call). c .number ∷ c .price ∷ c .passes ∷ c .raises ∷ []) callsA ≡
-    (102 ∷ 200 ∷ 2 ∷ 2 ∷ []) ∷ (1 ∷ 0 ∷ 0 ∷ 0 ∷ []) ∷ (1 ∷ 0 ∷ 0 ∷ 0 ∷ []) ∷ (100 ∷ 500 ∷ 2 ∷ 1 ∷ []) ∷ []
+    (102 ∷ 200 ∷ 2 ∷ 2 ∷ []) ∷ (1 ∷ 0 ∷ 0 ∷ 0 ∷ [])
+    ∷ (1 ∷ 0 ∷ 0 ∷ 0 ∷ []) ∷ (100 ∷ 500 ∷ 2 ∷ 1 ∷ []) ∷ []
 unfolding computing hostNumber hostSheet hostResult reported
 answers-A = refl
 

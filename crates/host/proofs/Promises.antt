@@ -1,8 +1,8 @@
 -- The promises of `ldfs_solve`: the demands of its calls, by the number returned and the bytes of its slices. docs/HOST.md cites them.
 use Prim.Native.Nat.{ℕ, _^_, _/_, _%_, _<_}
-use mathlib.Core.Path.{_≡_, refl, sym, ap, subst}
+use mathlib.Core.Path.{_≡_, refl, sym, ap}
 use mathlib.Core.Bool.{Bool, true, false}
-use mathlib.Core.List.{List, _∷_, _++_}
+use mathlib.Core.List.{List, _++_}
 use native.Mathlib.Omega.{arith}
 use borrow.Author.Tests.{le-leb}
 use lib.ListN.{length, drop}
@@ -10,10 +10,10 @@ use Rattle.model.specs.Format.{Bytes}
 use Rattle.model.specs.Tests.{fork}
 use Rattle.model.specs.QValue.{ceiling}
 use Rattle.model.specs.Report.{answerTo, bytesAfter}
-use Rattle.model.specs.Calls.{Call, callOn, Calls, none as no-call, one as one-call}
+use Rattle.model.specs.Calls.{Call, callOn, Calls, none as no-call}
 use Rattle.model.specs.Demands.{Accepted, Demand1, Demand2, Demand3}
 use Rattle.layout.proofs.Bytes.{four}
-use Rattle.theory.proofs.Called.{budget-given, call-refused}
+use Rattle.theory.proofs.Called.{budget-given, call-refused, made-call}
 use Rattle.theory.proofs.Promises.{raises-small, still-a-sheet}
 use Rattle.theory.proofs.Demands.{demand1, demand2, demand3, price-small}
 use Rattle.host.specs.Host.{le32, le64, entries, room, hostNumber, hostSheet, hostResult}
@@ -54,7 +54,8 @@ figures-fit s bytes entries budget =
     (omega (arith, price-small s bytes entries budget), omega arith, omega arith)
 
 -- One call, on the sheet s with the table t, a budget and the result r, that returned k and left s′, t′ and r′.
-module _ (s t : List ℕ) (budget : ℕ) (r : List ℕ) {k : ℕ} {s′ t′ r′ : List ℕ} (m : Hosted s t budget r k s′ t′ r′) (bytes : Bytes s) where
+module _ (s t : List ℕ) (budget : ℕ) (r : List ℕ) {k : ℕ} {s′ t′ r′ : List ℕ} (m : Hosted s t budget r k s′ t′ r′)
+    (bytes : Bytes s) where
   -- as the host sees it, it is what the questions and the procedure give
   hosted-call : hostCall budget k s′ r′ ≡ callOn s (hostEntries t r) budget
   unfolding hostNumber hostSheet hostResult
@@ -81,8 +82,7 @@ host-calls acc none = no-call
 host-calls acc (one {s} {s′} {t′} {r′} {k} {more} t budget r m rest) =
     let same = hosted-call s t budget r m (acc .bytes) in
     let left : s′ ≡ bytesAfter s (hostEntries t r) budget = ap (λ (c : Call). c .bytes) same in
-    subst (λ (c : Call). Calls s (c ∷ more)) (sym same)
-    (one-call (hostEntries t r) budget (rw left at (host-calls (rw left (still-a-sheet s acc (hostEntries t r) budget .0)) rest)))
+    made-call (hostEntries t r) budget same (host-calls (rw left (still-a-sheet s acc (hostEntries t r) budget .0)) rest)
 
 pub host-keeps : {s : List ℕ} {calls : List Call} → Accepted s → HostedAll s calls → Demand3 s calls
 host-keeps acc made = demand3 acc (host-calls acc made)

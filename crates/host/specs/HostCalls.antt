@@ -27,11 +27,12 @@ hostCall budget k s r =
 abbrev pub hostEntries : List ℕ → List ℕ → ℕ
 hostEntries t r = fork (room r) (λ _. entries t) (λ _. 0)
 
--- `ldfs_solve`'s contract, clause by clause: called on the sheet s with the table t, a budget and the result r, it returned k, and left s′,
--- t′ and r′
+-- `ldfs_solve`'s contract, clause by clause: called on the sheet s with the table t, a budget and the result r, it returned k, and
+-- left s′, t′ and r′
 abbrev pub Hosted : List ℕ → List ℕ → ℕ → List ℕ → ℕ → List ℕ → List ℕ → List ℕ → Type 0
 Hosted s t budget r k s′ t′ r′ =
-    (k ≡ hostNumber s t budget r) × ((s′ ≡ hostSheet s t budget r) × ((t′ ≡ hostTable s t budget r) × (r′ ≡ hostResult s t budget r)))
+    (k ≡ hostNumber s t budget r)
+    × ((s′ ≡ hostSheet s t budget r) × ((t′ ≡ hostTable s t budget r) × (r′ ≡ hostResult s t budget r)))
 
 -- calls on the sheet s, each with any table bytes, budget and result, on the bytes that the one before it left
 pub data HostedAll : List ℕ → List Call → Type 0 where

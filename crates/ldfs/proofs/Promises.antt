@@ -1,14 +1,15 @@
 -- The promises of the code, in one place: the verdict of `check`, and the demands of calls of `solve`.
 use Prim.Native.Nat.{ℕ, zero, suc}
-use mathlib.Core.Path.{_≡_, refl, sym, subst}
-use mathlib.Core.List.{List, _∷_}
+use mathlib.Core.Path.{_≡_, refl}
+use mathlib.Core.List.{List}
 use lib.ListN.{length}
 use Rattle.model.specs.declared.Answer.{Answer}
 use Rattle.model.specs.Format.{Bytes}
 use Rattle.model.specs.Questions.{checkQuestions, sheetRefusal}
-use Rattle.model.specs.Calls.{Call, callOf, callOn, Calls, none as no-call, one as one-call}
+use Rattle.model.specs.Calls.{Call, callOf, callOn, Calls, none as no-call}
 use Rattle.model.specs.Demands.{Accepted, Demand1, Demand2, Demand3}
 use Rattle.theory.proofs.Refusals.{first-is, none-is}
+use Rattle.theory.proofs.Called.{made-call}
 use Rattle.theory.proofs.Demands.{demand1, demand2, demand3}
 use Rattle.questions.specs.declared.Verdict.{Verdict}
 use Rattle.questions.specs.Verdicts.{verdictNumber, verdict, VerdictSays, accepted, refused, verdict-number}
@@ -41,9 +42,7 @@ module _ (s t : List ℕ) (budget : ℕ) {s′ t′ : List ℕ} {r : Answer} (m 
 -- Demand 3, of any calls on an accepted sheet
 solved-calls : {s : List ℕ} {calls : List Call} → SolvedAll s calls → Calls s calls
 solved-calls none = no-call
-solved-calls (one {s} {s′} {t′} {r} {more} t budget m rest) =
-    subst (λ (c : Call). Calls s (c ∷ more)) (sym (solved-call s t budget m))
-    (one-call (length t) budget (rw (m .1 .0) at (solved-calls rest)))
+solved-calls (one t budget m rest) = made-call (length t) budget (solved-call _ t budget m) (solved-calls rest)
 
 pub solve-keeps : {s : List ℕ} {calls : List Call} → Accepted s → SolvedAll s calls → Demand3 s calls
 solve-keeps acc made = demand3 acc (solved-calls made)

@@ -54,7 +54,8 @@ in-listed (there {t} {u} {ts} m) = or-right (eqb t u) (listed t ts) (in-listed m
 -- stage t has a line exactly where the plan that is written in the cells reaches it from the start
 abbrev pub ListedAsReached : Problem → List Cell → ℕ → Type 0
 ListedAsReached p cells t =
-    (reached p cells t ≡ true → Reach p (written cells) (p .start) t) × (Reach p (written cells) (p .start) t → reached p cells t ≡ true)
+    (reached p cells t ≡ true → Reach p (written cells) (p .start) t)
+    × (Reach p (written cells) (p .start) t → reached p cells t ≡ true)
 
 module _ (p : Problem) (cells : List Cell) where
   -- one step more, at the end
@@ -101,7 +102,14 @@ module _ (p : Problem) (cells : List Cell) where
     unfolding reachedBelow
     reached-is t = (reached-reach t t, λ r. onwards r (more 0 (p .start) (eq-eqb (p .start) (p .start) refl) (p .start) (omega arith)))
 
--- What `price` prints of any bytes, with a table of any number of entries, by the number of the outcome. Demand 1 says that these are all.
+-- What `price` prints, with a table of any number of entries.
+-- refused: the number of the first question that is answered no
+pub refused-prints : (s : List ℕ) (entries i : ℕ) → First (questions s entries largest) i →
+    listing s entries ≡ field (ascii "refused ") (suc i) ++ ascii "\n"
+unfolding listing
+refused-prints s entries i f = rw (answer-refused s entries largest i (first-refuses s entries largest i f), append-nil)
+
+-- of any bytes, by the number of the outcome; demand 1 says that these are all
 module _ (s : List ℕ) (bytes : Bytes s) (entries : ℕ) where
   abbrev answer : Answer
   answer = answerTo s entries largest
@@ -112,11 +120,6 @@ module _ (s : List ℕ) (bytes : Bytes s) (entries : ℕ) where
   -- line one of a call that worked: the outcome's word, a price, and its passes and raises
   abbrev line : List ℕ → ℕ → List ℕ
   line word price = field word price ++ (field (ascii " ") (answer .passes) ++ (field (ascii " ") (answer .raises) ++ ascii "\n"))
-
-  -- refused: the number of the first question that is answered no
-  pub refused-prints : (i : ℕ) → First (questions s entries largest) i → listing s entries ≡ field (ascii "refused ") (suc i) ++ ascii "\n"
-  unfolding listing
-  refused-prints i f = rw (answer-refused s entries largest i (first-refuses s entries largest i f), append-nil)
 
   -- settled: the least cost of the start, and then a line for each stage that the plan in the sheet reaches
   pub settled-prints : number (answer .outcome) ≡ 100 →

@@ -62,9 +62,9 @@ pub record StoppedAt (s : List ℕ) (c : Call) : Type 0 where
 
 -- Demand 2, of a call c on the bytes s with a table of so many entries and a budget
 pub record Demand2 (s : List ℕ) (entries budget : ℕ) (c : Call) : Type 0 where
-  -- it was refused exactly where some question is answered no
-  pub refused-for : c .number ≤ 9 → (i : ℕ) × (answerAt (questions s entries budget) i ≡ false)
-  pub refused-where : (i : ℕ) → answerAt (questions s entries budget) i ≡ false → c .number ≤ 9
+  -- it was refused, with a number below those of the outcomes, exactly where some question is answered no
+  pub refused-for : c .number < 100 → (i : ℕ) × (answerAt (questions s entries budget) i ≡ false)
+  pub refused-where : (i : ℕ) → answerAt (questions s entries budget) i ≡ false → c .number < 100
   -- what each outcome says
   pub settled : c .number ≡ 100 → SettledAt s c
   pub over : c .number ≡ 101 → OverAt s c

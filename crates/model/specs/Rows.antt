@@ -206,6 +206,7 @@ rows-hold = all-hold rows rows-pass
 pub length-A : length sheetA ≡ 81
 length-A = refl
 
-pub offsets-A : (t : List ℕ) → maxStates ≤ length t → tableAfter sheetA t largest ≡ 8 ∷ 37 ∷ 57 ∷ 69 ∷ replicate (length t - 4) 0
+pub offsets-A : (t : List ℕ) → maxStates ≤ length t →
+    tableAfter sheetA t largest ≡ 8 ∷ 37 ∷ 57 ∷ 69 ∷ replicate (length t - 4) 0
 unfolding computing
 offsets-A t h = rw (le-leb maxStates (length t) h)

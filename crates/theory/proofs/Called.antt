@@ -2,7 +2,7 @@
 use Prim.Native.Nat.{ℕ, zero, suc, _+_, _<_, _≤_}
 use mathlib.Core.Path.{_≡_, refl, _∙_, subst}
 use mathlib.Core.Bool.{Bool, true, false}
-use mathlib.Core.List.{List}
+use mathlib.Core.List.{List, _∷_}
 use native.Mathlib.Omega.{arith}
 use Rattle.model.specs.Problem.{Node, terminal, decision, Problem, Cell, states, nodeAt, cellOf, valueOf, solved}
 use Rattle.model.specs.Format.{Bytes, write}
@@ -60,6 +60,11 @@ module _ (s : List ℕ) (entries budget : ℕ) where
 
   pub call-refused : (n : ℕ) → refusal s entries budget ≡ suc n → callOn s entries budget ≡ callOf (refused budget (suc n)) s
   call-refused n e = rw (answer-refused n e, bytes-refused n e)
+
+-- a call that was made and is what the questions and the procedure give, before others
+pub made-call : {s : List ℕ} {c : Call} {more : List Call} (entries budget : ℕ) →
+    c ≡ callOn s entries budget → Calls (c .bytes) more → Calls s (c ∷ more)
+made-call entries budget e made = rw e (one entries budget (rw e at made))
 
 -- from some cells to others by so many raises
 pub record Kept (p : Problem) (cells cells′ : List Cell) (raises : ℕ) : Type 0 where

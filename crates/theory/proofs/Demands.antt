@@ -14,7 +14,7 @@ use Rattle.model.specs.Read.{problemOf, cellsOf}
 use Rattle.model.specs.QValue.{ceiling, cut}
 use Rattle.model.specs.Questions.{question1, question9, refusal}
 use Rattle.model.specs.Optimal.{gaps}
-use Rattle.model.specs.Report.{number, outcomeOf, cellsAfter, refused as refusedAnswer, finished, bytesAfter}
+use Rattle.model.specs.Report.{outcomeOf, cellsAfter, refused as refusedAnswer, finished, bytesAfter}
 use Rattle.model.specs.Calls.{Call, callOf, callOn, Calls, none, one, left, raisesIn, granted, budgetsIn}
 use Rattle.model.specs.Demands.{Accepted, startCell, startCost, Best, Demand1, refused, worked, Demand2, Demand3}
 use Rattle.theory.proofs.Basics.{clash}
@@ -108,7 +108,7 @@ module _ (s : List ℕ) (entries budget : ℕ) (e : refusal s entries budget ≡
     passes-few = done .few;
   }
     where
-      above : {n : ℕ} → n ≤ 9 → (n ≡ 100) ⊎ ((n ≡ 101) ⊎ (n ≡ 102)) → ⊥
+      above : {n : ℕ} → n < 100 → (n ≡ 100) ⊎ ((n ≡ 101) ⊎ (n ≡ 102)) → ⊥
       above few (inl z) = omega arith
       above few (inr (inl z)) = omega arith
       above few (inr (inr z)) = omega arith
@@ -156,8 +156,8 @@ open-spent s p cells h entries budget n o =
 
 -- each of some calls
 each-spent : {s : List ℕ} {calls : List Call} → Calls s calls → (p : Problem) (cells : List Cell) → Stands s p cells →
-    (before rest : List Call) (c : Call) →
-    calls ≡ before ++ c ∷ rest → 100 ≤ c .number → solved (cellOf (cellsOf (c .bytes)) (p .start)) ≡ false → c .raises ≡ c .budget
+    (before rest : List Call) (c : Call) → calls ≡ before ++ c ∷ rest →
+    100 ≤ c .number → solved (cellOf (cellsOf (c .bytes)) (p .start)) ≡ false → c .raises ≡ c .budget
 each-spent none p cells h [] rest c e n o = let z : _≡_ {A = ℕ} 0 1 = cc in absurd (omega arith)
 each-spent none p cells h (b ∷ before) rest c e n o = let z : _≡_ {A = ℕ} 0 1 = cc in absurd (omega arith)
 each-spent (one {s} {more} entries budget made) p cells h [] rest c e n o =

@@ -35,7 +35,8 @@ abbrev numbersOf : Call → List ℕ
 numbersOf c = c .number ∷ c .price ∷ c .passes ∷ c .raises ∷ c .budget ∷ []
 
 pub answers-A : map numbersOf callsA ≡
-    (102 ∷ 200 ∷ 2 ∷ 2 ∷ 2 ∷ []) ∷ (1 ∷ 0 ∷ 0 ∷ 0 ∷ 2 ∷ []) ∷ (9 ∷ 0 ∷ 0 ∷ 0 ∷ 0 ∷ []) ∷ (100 ∷ 500 ∷ 2 ∷ 1 ∷ largest ∷ []) ∷ []
+    (102 ∷ 200 ∷ 2 ∷ 2 ∷ 2 ∷ []) ∷ (1 ∷ 0 ∷ 0 ∷ 0 ∷ 2 ∷ [])
+    ∷ (9 ∷ 0 ∷ 0 ∷ 0 ∷ 0 ∷ []) ∷ (100 ∷ 500 ∷ 2 ∷ 1 ∷ largest ∷ []) ∷ []
 unfolding computing
 answers-A = refl
 
