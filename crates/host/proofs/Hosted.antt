@@ -13,7 +13,8 @@ use Rattle.model.specs.Format.{offsetsFrom}
 use Rattle.model.specs.Read.{problemOf}
 use Rattle.model.specs.Questions.{maxStates, question1, question3, questions, firstNo, refusal, none-no}
 use Rattle.model.specs.Report.{number, refused, onRefusal, answerTo, bytesAfter, indexTable, refusedTable, tableAfter}
-use Rattle.ldfs.specs.Made.{Solved}
+use Rattle.ldfs.specs.Made.{Filled}
+use Rattle.ldfs.proofs.Solving.{zeros-solved}
 use Rattle.layout.proofs.Index.{states-read, offsets-count}
 use Rattle.host.specs.Host.{le64, entryBytes, lengthened, entries, hostNumber, hostSheet, hostTable, hostResult}
 use Rattle.host.specs.HostCalls.{Hosted}
@@ -97,10 +98,11 @@ module _ (s t : List ℕ) (budget : ℕ) (r : List ℕ) where
         let few : entries t < maxStates = omega arith in let no : refusal s (entries t) budget ≡ 1 = refused-short s budget (entries t) few in
         rw (le-leb 24 (length r) room, no, lt-leb maxStates (entries t) few) (refl, (refl, (refl, told ∙ rw e)))
 
-    pub long-table : (m : ℕ) → maxStates ≤ m → m ≤ entries t → (s′ w t′ : List ℕ) (k : ℕ) → Solved s (replicate m 0) budget a s′ w → t′ ≡ entryBytes (lengthened w (entries t)) ++ drop (4 * entries t) t → k ≡ number (a .outcome) →
-        Hosted s t budget r k s′ t′ r′
+    pub long-table : (m : ℕ) → maxStates ≤ m → m ≤ entries t → (s′ w t′ : List ℕ) (k : ℕ) → Filled s (replicate m 0) budget a s′ w →
+        t′ ≡ entryBytes (lengthened w (entries t)) ++ drop (4 * entries t) t → k ≡ number (a .outcome) → Hosted s t budget r k s′ t′ r′
     unfolding hostNumber hostSheet hostTable hostResult
-    long-table m enough le s′ w t′ k solved put e =
+    long-table m enough le s′ w t′ k filled put e =
+        let solved = zeros-solved s budget m enough filled in
         let answer : a ≡ answerTo s (entries t) budget = solved .0 ∙ rw length-replicate (same-answer s budget m (entries t) enough le) in
         let sheet : s′ ≡ bytesAfter s (entries t) budget = solved .1 .0 ∙ rw length-replicate (same-bytes s budget m (entries t) enough le) in
         rw (le-leb 24 (length r) room, le-leb maxStates (entries t) (omega arith), same-table s budget m (entries t) enough le, ← answer, ← sheet, ← (solved .1 .1)) (e, (refl, (put, told)))

@@ -3,11 +3,12 @@ ghost use mathlib.Core.Path.{_≡_};
 ghost use mathlib.Core.List.{_++_};
 ghost use Prim.Native.Nat.{_+_, _*_, _%_, _<_, _≤_};
 ghost use lib.ListN.{length, getD, drop};
+ghost use Rattle.model.specs.Questions.{maxStates};
 ghost use Rattle.model.specs.Report.{number};
 ghost use Rattle.layout.specs.Placed.{placed};
 ghost use Rattle.host.specs.Host.{le32, le64, entries, entryBytes, lengthened, hostNumber, hostSheet, hostTable, hostResult};
 use ldfs::refusal;
-use ldfs::solve;
+use ldfs::solve_zeroed;
 use model::Answer;
 use model::MAX_STATES;
 use model::Outcome;
@@ -59,12 +60,18 @@ fn entry(table: &[u32], i: usize) -> u64
     if i < table.len() { table[i] as u64 } else { 0 }
 }
 
-// The entries of the index table as bytes, as far as whole entries go.
+// The entries of the index table as bytes, as far as whole entries go: the table's own, and then zeros. The two loops compile to a copy and a fill.
 fn put_table(bytes: &mut [u8], table: &[u32; MAX_STATES])
-    ensures { λ _. ⌜ now (bytes .exit) ≡ entryBytes (lengthened (now (table .entry)) (entries (now (bytes .entry)))) ++ drop (4 * entries (now (bytes .entry))) (now (bytes .entry)) ⌝ }
+    requires { ⌜ 4 * maxStates ≤ length (now bytes) ⌝ }
+    ensures { λ _. ⌜ now (bytes .exit) ≡ entryBytes (lengthened (now (table .entry)) (entries (now (bytes .entry)))) ++
+        drop (4 * entries (now (bytes .entry))) (now (bytes .entry)) ⌝ }
 {
     let n = bytes.len() / 4;
     let mut i: usize = 0;
+    while i < MAX_STATES {
+        put32(bytes, 4 * i, entry(table, i));
+        i += 1;
+    }
     while i < n {
         put32(bytes, 4 * i, entry(table, i));
         i += 1;
@@ -104,7 +111,7 @@ pub extern "C" fn ldfs_solve(
         return 1;
     }
     let mut index = [0u32; MAX_STATES];
-    let a = solve(sheet, &mut index, budget);
+    let a = solve_zeroed(sheet, &mut index, budget);
     put_table(table, &index);
     put_answer(result, a);
     let o = a.outcome;

@@ -1,6 +1,8 @@
 pub mod Actions
+pub mod Deciding
+pub mod Keeping
 pub mod Passing
+pub mod Promises
+pub mod Solving
 pub mod Trying
 pub mod Updates
-pub mod Solving
-pub mod Promises

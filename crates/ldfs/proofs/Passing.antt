@@ -16,8 +16,8 @@ use Rattle.theory.proofs.Turns.{passesFrom, pass-succeeds, pass-fails, pass-hal
 use Rattle.ldfs.specs.declared.visits.Way.{Way}
 use Rattle.ldfs.specs.declared.visits.Way.the-variants.{Success, Failure, Halt}
 use Rattle.ldfs.specs.declared.visits.Visited.{Visited}
-use Rattle.ldfs.specs.Did.{visitOf, Did, DidPasses}
-use Rattle.ldfs.proofs.Trying.{reached, visiting, ended, ends}
+use Rattle.ldfs.specs.Did.{visitOf, visiting, Did, DidPasses}
+use Rattle.ldfs.proofs.Trying.{reached, ended, ends}
 
 -- n passes have failed since the call began with the bytes s₀; now the bytes are s, with r raises
 pub record Passing (t : List ℕ) (p : Problem) (budget : ℕ) (s₀ s : List ℕ) (n r : ℕ) : Type 0 where

@@ -1,11 +1,12 @@
 -- From the questions' verdict to the work of a call, and from its end to the answer.
-use Prim.Native.Nat.{ℕ, zero, suc, _-_, _<_, _≤_}
+use Prim.Native.Nat.{ℕ, zero, suc, _<_, _≤_}
 use mathlib.Core.Path.{_≡_, refl, sym, ap, _∙_}
 use mathlib.Core.Bool.{Bool, true, false}
+use mathlib.Core.Logic.{_⊎_}
 use mathlib.Core.List.{List, [], _∷_, _++_}
 use native.Mathlib.Omega.{arith}
-use borrow.Author.Tests.{lt-ltb, le-ltb, eq-eqb, le-leb, leb-true}
-use lib.ListN.{length, getD, take, replicate, length-append, length-replicate}
+use borrow.Author.Tests.{lt-ltb, le-ltb, eq-eqb, lt-leb, le-leb, leb-true}
+use lib.ListN.{length, replicate, length-append, length-drop, length-replicate}
 use Rattle.model.specs.declared.Answer.{Answer}
 use Rattle.model.specs.declared.Outcome.{Outcome}
 use Rattle.model.specs.declared.Outcome.the-variants.{Settled, Over, Stopped}
@@ -17,19 +18,20 @@ use Rattle.model.specs.QValue.{ceiling}
 use Rattle.model.specs.Questions.{maxStates, question1, question9, Question, sheetQuestions, checkQuestions, firstNo, sheetRefusal}
 use Rattle.model.specs.Questions.{refusal, accepted, AllYes, none-no, all-yes}
 use Rattle.model.specs.Ldfs.{Search, searchOf, work}
-use Rattle.model.specs.Report.{outcomeOf, cellsAfter, raisesOf, refused, onRefusal, answerTo, bytesAfter, indexTable, refusedTable, checkedTable, tableAfter}
+use Rattle.model.specs.Report.{outcomeOf, cellsAfter, raisesOf, refused, onRefusal, answerTo, bytesAfter, refusedTable, tableAfter}
 use Rattle.layout.proofs.Index.{offsets-count}
 use Rattle.theory.proofs.Accepted.{asked-problem, asked-cells}
 use Rattle.theory.proofs.Sheets.{Stands, accepted-stands, refusals-left}
-use Rattle.sheet.specs.Sheet.{Sheet, Within}
+use Rattle.sheet.specs.Sheet.{Within}
 use Rattle.sheet.proofs.Laws.{indexed, nine-room}
 use Rattle.questions.specs.declared.Verdict.the-variants.{Accepted, Refused as RefusedBy}
 use Rattle.questions.specs.Verdicts.{verdict}
-use Rattle.questions.proofs.Asking.{kind-is}
+use Rattle.questions.specs.Put.{indexedBefore, askedTable}
+use Rattle.questions.proofs.Asking.{first-from, cleared, cleared-zeros, cleared-length, from-cleared}
 use Rattle.ldfs.specs.declared.visits.Way.{Way}
 use Rattle.ldfs.specs.declared.visits.Way.the-variants.{Success, Failure, Halt}
 use Rattle.ldfs.specs.declared.passes.Passes.{Passes as PassesMade}
-use Rattle.ldfs.specs.Made.{Solved}
+use Rattle.ldfs.specs.Made.{filledTable, Filled, Solved}
 use Rattle.ldfs.specs.Did.{search, visitOf, Workable, DidPasses, Finished}
 
 -- the start's number, and the head's bytes, of a sheet
@@ -40,10 +42,6 @@ start-is s = refl
 pub head-room : {s t : List ℕ} {i : ℕ} → Within s t i → 8 ≤ length s
 unfolding offset
 head-room {s} {t} {i} w = omega (arith, nine-room (w .sheet) i (w .below), w .sheet .table i (w .below))
-
-index-length : (p : Problem) (n : ℕ) → states p ≤ n → length (indexTable p n) ≡ n
-unfolding indexTable
-index-length p n le = rw (length-append, offsets-count 8 (p .nodes), length-replicate) (omega arith)
 
 -- The answer of work that is done.
 search-of : (cells : List Cell) (way : Way) (r : ℕ) → searchOf (visitOf cells way r) ≡ search cells r
@@ -65,32 +63,27 @@ module _ (s : List ℕ) (budget : ℕ) {t s′ : List ℕ} {w : PassesMade} (d :
   abbrev answered : Outcome → ℕ → Answer
   answered o price = record { outcome = o; price = price; passes = w .begun; raises = w .raises; budget = budget }
 
-  finished-with : (o : Outcome) (price : ℕ) → price ≡ valueOf (cellsOf s′) (problemOf s .start) → outcomeOf (cellOf (cellsOf s′) (problemOf s .start)) ≡ o →
+  -- by the start's cell
+  pub answers : {start price : ℕ} {o : Outcome} → start ≡ problemOf s .start → price ≡ valueOf (cellsOf s′) start → o ≡ outcomeOf (cellOf (cellsOf s′) start) →
       Finished s s′ (answered o price) budget
-  finished-with o price v e = record {
+  answers at v e = record {
     bytes = d .sheet .is ∙ ap (write (problemOf s)) (sym cells-left);
-    said = rw (cells-left, begun-made, raises-made, e, v);
+    said = rw (cells-left, begun-made, raises-made, ← at, ← e, v);
   }
 
-  -- by the start's mark and value
-  module _ (start price : ℕ) (at : start ≡ problemOf s .start) (v : price ≡ valueOf (cellsOf s′) start) (b : Bool) (mark : b ≡ solved (cellOf (cellsOf s′) start)) where
-    value : price ≡ valueOf (cellsOf s′) (problemOf s .start)
-    value = v ∙ ap (valueOf (cellsOf s′)) at
+-- an outcome by the mark and the value of a cell
+module _ (c : Cell) {marked : Bool} {price : ℕ} (mark : marked ≡ solved c) (v : price ≡ c .value) where
+  pub settled : marked ≡ true → price < 1000000000 → Settled ≡ outcomeOf c
+  unfolding outcomeOf ceiling
+  settled e lt = rw (← mark, e, ← v, lt-ltb price 1000000000 lt)
 
-    marked : solved (cellOf (cellsOf s′) (problemOf s .start)) ≡ b
-    marked = sym (mark ∙ ap (λ (i : ℕ). solved (cellOf (cellsOf s′) i)) at)
+  pub over : marked ≡ true → 1000000000 ≤ price → Over ≡ outcomeOf c
+  unfolding outcomeOf ceiling
+  over e le = rw (← mark, e, ← v, le-ltb price 1000000000 le)
 
-    pub settled : b ≡ true → price < 1000000000 → Finished s s′ (answered Settled price) budget
-    unfolding outcomeOf ceiling
-    settled e lt = finished-with Settled price value (rw (marked, e, ← value, lt-ltb price 1000000000 lt))
-
-    pub over : b ≡ true → 1000000000 ≤ price → Finished s s′ (answered Over price) budget
-    unfolding outcomeOf ceiling
-    over e le = finished-with Over price value (rw (marked, e, ← value, le-ltb price 1000000000 le))
-
-    pub stopped : b ≡ false → Finished s s′ (answered Stopped price) budget
-    unfolding outcomeOf
-    stopped e = finished-with Stopped price value (rw (marked, e))
+  pub stopped : marked ≡ false → Stopped ≡ outcomeOf c
+  unfolding outcomeOf
+  stopped e = rw (← mark, e)
 
 -- The verdict, and the refusal of the call.
 refused-more : (n : ℕ) (asked more : List Question) (k : ℕ) → firstNo n asked ≡ suc k → firstNo n (asked ++ more) ≡ suc k
@@ -105,21 +98,21 @@ refused-more n (ask ∷ asked) more k h = go (ask tt) refl (refused-more (suc n)
 module _ (s t : List ℕ) (budget : ℕ) where
   -- by the refusal of the call
   refused-call : (k : ℕ) → refusal s (length t) budget ≡ suc k → (r : Answer) → r ≡ refused budget (suc k) →
-      (t′ : List ℕ) → t′ ≡ refusedTable t (suc k) → Solved s t budget r s t′
-  unfolding answerTo bytesAfter tableAfter onRefusal
+      (t′ : List ℕ) → t′ ≡ refusedTable t (suc k) → Filled s t budget r s t′
+  unfolding answerTo bytesAfter filledTable onRefusal
   refused-call k e r a t′ last = rw e (a, (refl, last))
 
-  worked-call : refusal s (length t) budget ≡ 0 → (s′ t′ : List ℕ) (r : Answer) → Finished s s′ r budget → t′ ≡ indexTable (problemOf s) (length t) → Solved s t budget r s′ t′
-  unfolding answerTo bytesAfter tableAfter onRefusal
+  worked-call : refusal s (length t) budget ≡ 0 → (s′ t′ : List ℕ) (r : Answer) → Finished s s′ r budget → t′ ≡ indexedBefore s t → Filled s t budget r s′ t′
+  unfolding answerTo bytesAfter filledTable onRefusal
   worked-call e s′ t′ r f last = rw e (f .said, (f .bytes, last))
 
   -- refused by questions 1 to 8
   pub refused-by : (n : ℕ) → RefusedBy n ≡ verdict (sheetRefusal s (length t)) → (r : Answer) → r ≡ refused budget n →
-      (t′ : List ℕ) → t′ ≡ checkedTable s t → Solved s t budget r s t′
-  unfolding verdict checkedTable sheetRefusal refusal onRefusal
+      (t′ : List ℕ) → t′ ≡ askedTable s t → Filled s t budget r s t′
+  unfolding verdict askedTable sheetRefusal refusal onRefusal
   refused-by n e r a t′ last = go (sheetRefusal s (length t)) refl e
     where
-      go : (k : ℕ) → sheetRefusal s (length t) ≡ k → RefusedBy n ≡ verdict k → Solved s t budget r s t′
+      go : (k : ℕ) → sheetRefusal s (length t) ≡ k → RefusedBy n ≡ verdict k → Filled s t budget r s t′
       go zero z v = let f : _≡_ {A = ℕ} 0 1 = cc in absurd (omega arith)
       go (suc k) z v =
           let same : n ≡ suc k = cc in
@@ -147,10 +140,10 @@ module _ (s t : List ℕ) (budget : ℕ) where
     by-budget : refusal s (length t) budget ≡ fork (question9 budget) (λ _. 0) (λ _. 9)
     by-budget = refusals-left s (problemOf s) (cellsOf s) stands (length t) budget ∙ rw (yes .0)
 
-    module _ (t′ : List ℕ) (checked : t′ ≡ checkedTable s t) where
-      filled : t′ ≡ indexTable (problemOf s) (length t)
-      unfolding checkedTable onRefusal
-      filled = checked ∙ rw none
+    module _ (t′ : List ℕ) (asked : t′ ≡ askedTable s t) where
+      filled : t′ ≡ indexedBefore s t
+      unfolding askedTable onRefusal
+      filled = asked ∙ rw none
 
       -- the table is long enough, and as long as it was
       enough : states (problemOf s) ≤ length t
@@ -158,23 +151,44 @@ module _ (s t : List ℕ) (budget : ℕ) where
       enough = omega (arith, leb-true maxStates (length t) (yes .0), stands .asked .shaped .most)
 
       long : length t′ ≡ length t
-      long = ap length filled ∙ index-length (problemOf s) (length t) enough
-
-      sheet : Sheet s t′ (problemOf s) (cellsOf s)
-      unfolding indexTable
-      sheet = indexed _ (stands .is) (stands .asked .shaped) filled
+      long = rw (filled, length-append, offsets-count 8 (problemOf s .nodes), length-drop) (omega (arith, enough))
 
       pub start-within : Within s t′ (problemOf s .start)
-      start-within = record { sheet = sheet; below = stands .asked .shaped .start }
+      start-within = record { sheet = indexed _ (stands .is) (stands .asked .shaped) filled; below = stands .asked .shaped .start }
 
-      pub workable : Workable s (getD s 3 0)
-      workable = record { formed = asked-problem (problemOf s) (cellsOf s) (stands .asked); consistent = asked-cells (problemOf s) (cellsOf s) (stands .asked); same = kind-is s }
+      pub workable : Workable s
+      workable = record { formed = asked-problem (problemOf s) (cellsOf s) (stands .asked); consistent = asked-cells (problemOf s) (cellsOf s) (stands .asked) }
 
-      pub no-budget : budget ≡ 0 → (r : Answer) → r ≡ refused budget 9 →
-          (t″ : List ℕ) → t″ ≡ take 0 t′ ++ replicate (length t′ - 0) 0 → Solved s t budget r s t″
+      pub no-budget : budget ≡ 0 → (r : Answer) → r ≡ refused budget 9 → (t″ : List ℕ) → t″ ≡ cleared t′ → Filled s t budget r s t″
       unfolding question9 refusedTable
-      no-budget z r a t″ last = let l : length t′ - 0 ≡ length t = omega (arith, long) in refused-call 8 (by-budget ∙ rw z) r a t″ (last ∙ rw l)
+      no-budget z r a t″ last = refused-call 8 (by-budget ∙ rw z) r a t″ (last ∙ cleared-zeros t′ ∙ rw long)
 
-      pub worked : (budget ≡ 0 → ⊥) → (s′ : List ℕ) (r : Answer) → Finished s s′ r budget → Solved s t budget r s′ t′
+      pub worked : (budget ≡ 0 → ⊥) → (s′ : List ℕ) (r : Answer) → Finished s s′ r budget → Filled s t budget r s′ t′
       unfolding question9
       worked z s′ r f = worked-call (by-budget ∙ rw (le-leb 1 budget (omega arith))) s′ t′ r f filled
+
+-- From a table that was cleared to any table.
+module _ (s t : List ℕ) (budget : ℕ) where
+  pub refused-short : length t < maxStates → (r : Answer) → r ≡ refused budget 1 → Solved s t budget r s t
+  unfolding answerTo bytesAfter tableAfter refusal firstNo question1 onRefusal refusedTable
+  refused-short h r a = rw (lt-leb maxStates (length t) h) (a, (refl, refl))
+
+  module _ (ge : maxStates ≤ length t) where
+    -- question 1 does not refuse
+    number : (refusal s (length t) budget ≡ 0) ⊎ (2 ≤ refusal s (length t) budget)
+    unfolding refusal firstNo question1
+    number = rw (le-leb maxStates (length t) ge) (first-from 2 (sheetQuestions s ++ ((λ _. question9 budget) ∷ [])))
+
+    pub from-zeros : {r : Answer} {s′ t′ : List ℕ} → Filled s (cleared t) budget r s′ t′ → Solved s t budget r s′ t′
+    unfolding filledTable tableAfter
+    from-zeros f =
+        let long = cleared-length t in
+        let table = rw long at (f .1 .1) in
+        (rw long at (f .0), (rw long at (f .1 .0), table ∙ from-cleared s t (refusal s (length t) budget) number))
+
+-- a table of zeros is one that was cleared
+pub zeros-solved : (s : List ℕ) (budget m : ℕ) → maxStates ≤ m → {r : Answer} {s′ t′ : List ℕ} → Filled s (replicate m 0) budget r s′ t′ →
+    Solved s (replicate m 0) budget r s′ t′
+zeros-solved s budget m ge f =
+    let same : cleared (replicate m 0) ≡ replicate m 0 = cleared-zeros (replicate m 0) ∙ rw length-replicate in
+    from-zeros s (replicate m 0) budget (rw length-replicate ge) (rw same f)

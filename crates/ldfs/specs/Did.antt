@@ -3,11 +3,11 @@ use Prim.Native.Nat.{ℕ}
 use mathlib.Core.Path.{_≡_}
 use mathlib.Core.Bool.{Bool, true, false}
 use mathlib.Core.List.{List}
-use Rattle.model.specs.Problem.{Problem, Cell}
-use Rattle.model.specs.Read.{kindOf, problemOf, cellsOf}
+use Rattle.model.specs.Problem.{Problem, Cell, states, nodeAt}
+use Rattle.model.specs.Read.{problemOf, cellsOf}
 use Rattle.model.specs.declared.Answer.{Answer}
-use Rattle.model.specs.Format.{write}
-use Rattle.model.specs.Ldfs.{Search, Visit, success, failure, halt, Passes, work}
+use Rattle.model.specs.Format.{write, actionsOf}
+use Rattle.model.specs.Ldfs.{Search, Visit, success, failure, halt, tryOne, visit, Passes, work}
 use Rattle.model.specs.Report.{cellsAfter, finished}
 use Rattle.sheet.specs.Sheet.{Sheet}
 use Rattle.theory.specs.Consistent.{WellFormed, Consistent}
@@ -26,11 +26,18 @@ visitOf cells Success r = success (search cells r)
 visitOf cells Failure r = failure (search cells r)
 visitOf cells Halt r = halt (search cells r)
 
--- what work may suppose: the problem is well formed, the cells are consistent, and the kind is the sheet's
-pub record Workable (s : List ℕ) (kind : ℕ) : Type 0 where
+-- a visit to state i, with fuel enough
+abbrev pub visiting : Problem → ℕ → ℕ → Search → Visit
+visiting p budget = visit p budget (states p)
+
+-- action n of decision i tried: it fails where it is abandoned
+abbrev pub trying : Problem → ℕ → ℕ → ℕ → Search → Visit
+trying p budget i n = tryOne p budget (visiting p budget) i (actionsOf (nodeAt p i)) n failure
+
+-- what work may suppose: the problem is well formed, and the cells are consistent
+pub record Workable (s : List ℕ) : Type 0 where
   pub formed : WellFormed (problemOf s)
   pub consistent : Consistent (problemOf s) (cellsOf s)
-  pub same : kindOf kind ≡ problemOf s .kind
 
 -- the bytes s, left of the problem p, and the answer v are the visit o
 pub record Did (t : List ℕ) (p : Problem) (s : List ℕ) (v : Visited) (o : Visit) : Type 0 where

@@ -1,2 +1,4 @@
 pub mod Did
 pub mod Made
+pub mod Keeps
+pub mod Opens

@@ -4,10 +4,20 @@ use mathlib.Core.Path.{_≡_}
 use mathlib.Core.List.{List, [], _∷_}
 use lib.ListN.{length}
 use Rattle.model.specs.declared.Answer.{Answer}
-use Rattle.model.specs.Report.{answerTo, bytesAfter, tableAfter}
+use Rattle.model.specs.Questions.{refusal}
+use Rattle.model.specs.Report.{onRefusal, refusedTable, answerTo, bytesAfter, tableAfter}
 use Rattle.model.specs.Calls.{Call, callOf}
+use Rattle.questions.specs.Put.{indexedBefore}
 
--- `solve`'s contract, clause by clause: called on the bytes s with the table t, it returned r, and left the bytes s′ and the table t′
+-- the table's content after `solve_zeroed`: what stood past an accepted sheet's last stage stays there
+unfoldable pub filledTable : List ℕ → List ℕ → ℕ → List ℕ
+filledTable s t budget = onRefusal (refusal s (length t) budget) (λ _. indexedBefore s t) (refusedTable t)
+
+-- `solve_zeroed`'s contract, clause by clause: called on the bytes s with the table t, it returned r, and left the bytes s′ and the table t′
+abbrev pub Filled : List ℕ → List ℕ → ℕ → Answer → List ℕ → List ℕ → Type 0
+Filled s t budget r s′ t′ = (r ≡ answerTo s (length t) budget) × ((s′ ≡ bytesAfter s (length t) budget) × (t′ ≡ filledTable s t budget))
+
+-- `solve`'s contract, likewise
 abbrev pub Solved : List ℕ → List ℕ → ℕ → Answer → List ℕ → List ℕ → Type 0
 Solved s t budget r s′ t′ = (r ≡ answerTo s (length t) budget) × ((s′ ≡ bytesAfter s (length t) budget) × (t′ ≡ tableAfter s t budget))
 

@@ -1,23 +1,23 @@
 // Learning depth-first search over the bytes of a sheet, and the public `solve`.
+mod kept; // kept.rt: the least price, and the prices kept for it
 mod visits; // visits.rt: a visit to a state
 mod passes; // passes.rt: passes, visits to the start
 
 ghost use mathlib.Core.Path.{_≡_};
-ghost use mathlib.Core.List.{List};
-ghost use Prim.Native.Nat.{ℕ, _<_, _≤_};
-ghost use lib.ListN.{length, getD};
-ghost use Rattle.model.specs.Problem.{Problem, cellOf};
-ghost use Rattle.model.specs.Read.{problemOf, cellsOf};
-ghost use Rattle.model.specs.Ldfs.{work as worked};
-ghost use Rattle.model.specs.Report.{refused, finished, answerTo, bytesAfter, tableAfter};
-ghost use Rattle.sheet.specs.Sheet.{Sheet, Within};
+ghost use lib.ListN.{length};
+ghost use Rattle.model.specs.Problem.{Cell, solved};
+ghost use Rattle.model.specs.Read.{problemOf};
+ghost use Rattle.model.specs.Report.{outcomeOf, refused, answerTo, bytesAfter, tableAfter};
+ghost use Rattle.sheet.specs.Sheet.{Within};
 ghost use Rattle.ldfs.specs.Did.{Workable, Finished};
+ghost use Rattle.ldfs.specs.Made.{filledTable};
 use model::Answer;
 use model::LONG_CEILING;
+use model::MAX_STATES;
 use model::Outcome;
 use passes::work;
 use questions::Verdict;
-use questions::check;
+use questions::ask;
 use questions::clear;
 use sheet::fields::solved_at;
 use sheet::fields::value_at;
@@ -38,54 +38,47 @@ pub fn refusal(n: u32, budget: u64) -> Answer
     }
 }
 
-// The work of a call on an accepted sheet, and its answer: settled where the start is marked below the ceiling, over where it is marked at it, else
-// stopped.
-fn finish(sheet: &mut [u8], table: &[u32], budget: u64) -> Answer
-    requires { ⌜ Within (now sheet) (now table) (problemOf (now sheet) .start) ⌝ }
-    requires { ⌜ Workable (now sheet) (getD (now sheet) 3 0) ⌝ }
-    ensures { λ r. ⌜ Finished (now (sheet .entry)) (now (sheet .exit)) r budget ⌝ }
+// Settled where the start is marked below the ceiling, over where it is marked at it, else stopped.
+fn outcome(marked: bool, price: u64) -> Outcome
+    ensures { λ r. ⌜ ((c : Cell) → marked ≡ solved c → price ≡ c .value → r ≡ outcomeOf c) ⌝ }
 {
-    let start = place(get16(sheet, 6));
-    let kind = sheet[3];
-    let w = work(sheet, table, kind, start, budget);
-    let price = long(value_at(sheet, table, start));
-    if solved_at(sheet, table, start) {
+    if marked {
         if price < LONG_CEILING {
-            Answer {
-                outcome: Outcome::Settled,
-                price,
-                passes: w.begun,
-                raises: w.raises,
-                budget,
-            }
+            Outcome::Settled
         } else {
-            Answer {
-                outcome: Outcome::Over,
-                price,
-                passes: w.begun,
-                raises: w.raises,
-                budget,
-            }
+            Outcome::Over
         }
     } else {
-        Answer {
-            outcome: Outcome::Stopped,
-            price,
-            passes: w.begun,
-            raises: w.raises,
-            budget,
-        }
+        Outcome::Stopped
     }
 }
 
-// Works any bytes as a sheet, with any table and any budget. What it answers, and what it leaves in the sheet and in the table, is what document 01's
-// questions and procedure give: for every input, refused or not.
-pub fn solve(sheet: &mut [u8], table: &mut [u32], budget: u64) -> Answer
+// The work of a call on an accepted sheet, and its answer.
+fn finish(sheet: &mut [u8], table: &[u32], budget: u64) -> Answer
+    requires { ⌜ Within (now sheet) (now table) (problemOf (now sheet) .start) ⌝ }
+    requires { ⌜ Workable (now sheet) ⌝ }
+    ensures { λ r. ⌜ Finished (now (sheet .entry)) (now (sheet .exit)) r budget ⌝ }
+{
+    let start = place(get16(sheet, 6));
+    let w = work(sheet, table, start, budget);
+    let price = long(value_at(sheet, table, start));
+    Answer {
+        outcome: outcome(solved_at(sheet, table, start), price),
+        price,
+        passes: w.begun,
+        raises: w.raises,
+        budget,
+    }
+}
+
+// Works any bytes as a sheet, with any table and any budget, as `solve` does, but the entries past an accepted sheet's last stage stay as they are: for
+// a table that is known to be zero it is `solve` without the clearing.
+pub fn solve_zeroed(sheet: &mut [u8], table: &mut [u32], budget: u64) -> Answer
     ensures answer { λ r. ⌜ r ≡ answerTo (now (sheet .entry)) (length (now (table .entry))) budget ⌝ }
     ensures sheet { λ _. ⌜ now (sheet .exit) ≡ bytesAfter (now (sheet .entry)) (length (now (table .entry))) budget ⌝ }
-    ensures table { λ _. ⌜ now (table .exit) ≡ tableAfter (now (sheet .entry)) (now (table .entry)) budget ⌝ }
+    ensures table { λ _. ⌜ now (table .exit) ≡ filledTable (now (sheet .entry)) (now (table .entry)) budget ⌝ }
 {
-    let v = check(sheet, table);
+    let v = ask(sheet, table);
     match v {
         Verdict::Refused(n) => refusal(n, budget),
         Verdict::Accepted => {
@@ -97,4 +90,18 @@ pub fn solve(sheet: &mut [u8], table: &mut [u32], budget: u64) -> Answer
             }
         }
     }
+}
+
+// Works any bytes as a sheet, with any table and any budget. What it answers, and what it leaves in the sheet and in the table, is what document 01's
+// questions and procedure give: for every input, refused or not.
+pub fn solve(sheet: &mut [u8], table: &mut [u32], budget: u64) -> Answer
+    ensures answer { λ r. ⌜ r ≡ answerTo (now (sheet .entry)) (length (now (table .entry))) budget ⌝ }
+    ensures sheet { λ _. ⌜ now (sheet .exit) ≡ bytesAfter (now (sheet .entry)) (length (now (table .entry))) budget ⌝ }
+    ensures table { λ _. ⌜ now (table .exit) ≡ tableAfter (now (sheet .entry)) (now (table .entry)) budget ⌝ }
+{
+    if table.len() < MAX_STATES {
+        return refusal(1, budget);
+    }
+    clear(table, 0);
+    solve_zeroed(sheet, table, budget)
 }

@@ -1,10 +1,8 @@
 // Passes, visits to the start, until one succeeds.
 ghost use mathlib.Core.Path.{_≡_};
-ghost use Prim.Native.Nat.{ℕ, _<_, _≤_};
-ghost use Rattle.model.specs.Problem.{Problem};
 ghost use Rattle.model.specs.Read.{problemOf, cellsOf};
 ghost use Rattle.model.specs.Ldfs.{work as worked};
-ghost use Rattle.sheet.specs.Sheet.{Sheet, Within};
+ghost use Rattle.sheet.specs.Sheet.{Within};
 ghost use Rattle.ldfs.specs.Did.{Workable, DidPasses};
 use super::visits::Way;
 use super::visits::visit;
@@ -17,18 +15,18 @@ pub(crate) struct Passes {
 }
 
 // The work of one call. A pass that fails has raised something, so what is left of the budget falls.
-pub(crate) fn work(sheet: &mut [u8], table: &[u32], kind: u8, start: usize, budget: u64) -> Passes
+pub(crate) fn work(sheet: &mut [u8], table: &[u32], start: usize, budget: u64) -> Passes
     requires { ⌜ Within (now sheet) (now table) start ⌝ }
-    requires { ⌜ Workable (now sheet) kind ⌝ }
+    requires { ⌜ Workable (now sheet) ⌝ }
     requires { ⌜ start ≡ problemOf (now sheet) .start ⌝ }
-    ensures { λ r. ⌜ ((p : Problem) → Sheet (now (sheet .entry)) (now (table .entry)) p (cellsOf (now (sheet .entry))) →
-        DidPasses (now (table .entry)) p (now (sheet .exit)) r (worked p (cellsOf (now (sheet .entry))) budget)) ⌝ }
+    ensures { λ r. ⌜ DidPasses (now (table .entry)) (problemOf (now (sheet .entry))) (now (sheet .exit)) r
+        (worked (problemOf (now (sheet .entry))) (cellsOf (now (sheet .entry))) budget) ⌝ }
 {
     let mut begun: u64 = 0;
     let mut raises: u64 = 0;
     loop {
         begun += 1;
-        let v = visit(sheet, table, kind, start, raises, budget);
+        let v = visit(sheet, table, start, raises, budget);
         raises = v.raises;
         let way = v.way;
         match way {

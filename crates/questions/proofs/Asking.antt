@@ -6,31 +6,28 @@ use mathlib.Core.List.{List, [], _∷_, _++_}
 use mathlib.Core.Logic.{_⊎_, inl, inr, ⊎-elim}
 use native.Mathlib.Omega.{arith}
 use borrow.Author.Tests.{le-leb, lt-leb}
-use lib.ListN.{length, getD, take, drop, replicate, length-append, length-drop}
-use lib.Seq.{take-at}
+use lib.ListN.{length, take, drop, replicate, length-replicate}
 use Rattle.model.specs.Tests.{all, every}
 use Rattle.model.specs.Problem.{Problem, Cell, states}
 use Rattle.model.specs.Format.{Bytes, be16, offsetsFrom}
-use Rattle.model.specs.Read.{nodesGood, nodesRead, kindOf, problemOf, cellsOf}
-use Rattle.model.specs.Questions.{maxStates, maxBytes, question1, question2, question3, question4, question5, question6, question7, question8, Question, sheetQuestions, firstNo, sheetRefusal, none-no}
+use Rattle.model.specs.Read.{nodesGood, nodesRead, problemOf, cellsOf}
+use Rattle.model.specs.Questions.{maxStates, maxBytes, question1, question2, question3, question4}
+use Rattle.model.specs.Questions.{question5, question6, question7, question8, Question, sheetQuestions, firstNo, sheetRefusal}
 use Rattle.model.specs.Report.{onRefusal, indexTable, refusedTable, checkedTable}
-use Rattle.layout.proofs.Same.{read-writes, read-shaped, head-says}
-use Rattle.layout.proofs.Index.{states-read, offsets-count}
-use Rattle.sheet.specs.Sheet.{Sheet, Within}
+use Rattle.layout.proofs.Same.{read-writes, read-shaped}
+use Rattle.layout.proofs.Index.{states-read}
+use Rattle.sheet.specs.Sheet.{Within}
 use Rattle.sheet.proofs.Laws.{indexed}
 use Rattle.questions.specs.declared.states.Question.the-variants.{Ranges, Order, Bounds, Marks}
+use Rattle.questions.specs.declared.Verdict.{Verdict}
 use Rattle.questions.specs.declared.Verdict.the-variants.{Accepted, Refused}
-use Rattle.questions.specs.Put.{passesAt, rangesAt, statesNo}
+use Rattle.questions.specs.Put.{passesAt, rangesAt, statesNo, indexedBefore, askedTable}
 use Rattle.questions.specs.Verdicts.{verdict}
 
--- a question answered yes, and no
-pub yes : (n : ℕ) (ask : Question) (more : List Question) → ask tt ≡ true → firstNo n (ask ∷ more) ≡ firstNo (suc n) more
+-- a question answered yes
+yes : (n : ℕ) (ask : Question) (more : List Question) → ask tt ≡ true → firstNo n (ask ∷ more) ≡ firstNo (suc n) more
 unfolding firstNo
 yes n ask more h = rw h
-
-pub no : (n : ℕ) (ask : Question) (more : List Question) → ask tt ≡ false → firstNo n (ask ∷ more) ≡ n
-unfolding firstNo
-no n ask more h = rw h
 
 -- questions 5 to 8, state by state
 module _ (p : Problem) (cells : List Cell) where
@@ -99,39 +96,45 @@ module _ (s : List ℕ) where
         unfolding firstNo question4
         no-4 h = rw (two, head, ← count, h)
 
-        module _ (body : nodesGood n (drop 8 s) ≡ true) where
-          in-place : question4 s ≡ true
-          unfolding question4
-          in-place = rw (← count) body
+-- A sheet of a right length whose head is in place, as are its n stages.
+pub record Laid (s : List ℕ) (n : ℕ) : Type 0 where
+  pub least : 20 ≤ length s
+  pub most : length s ≤ maxBytes
+  pub head : question3 s ≡ true
+  pub count : n ≡ be16 s 4
+  pub good : nodesGood n (drop 8 s) ≡ true
 
-          pub then-states : firstNo 2 (sheetQuestions s) ≡ statesNo (problemOf s) (cellsOf s)
-          unfolding firstNo statesNo
-          then-states = rw (two, head, in-place)
+module _ {s : List ℕ} {n : ℕ} (h : Laid s n) where
+  in-place : question4 s ≡ true
+  unfolding question4
+  in-place = rw (← h .count) (h .good)
 
-          module _ (byte : Bytes s) where
-            pub states-are : n ≡ states (problemOf s)
-            states-are = count ∙ sym (states-read s)
+  -- questions 5 to 8 are left
+  pub then-states : firstNo 2 (sheetQuestions s) ≡ statesNo (problemOf s) (cellsOf s)
+  unfolding firstNo statesNo
+  then-states = rw (two s (h .least) (h .most), h .head, in-place)
 
-            nodes-are : nodesRead n (drop 8 s) ≡ problemOf s .nodes
-            unfolding problemOf
-            nodes-are = rw count
+  -- n and the nodes read are those of its problem
+  pub states-are : n ≡ states (problemOf s)
+  states-are = h .count ∙ sym (states-read s)
 
-            -- a table that begins with the offsets makes a sheet
-            pub sheet-from : (t rest : List ℕ) → t ≡ offsetsFrom 8 (nodesRead n (drop 8 s)) ++ rest → Sheet s t (problemOf s) (cellsOf s)
-            sheet-from t rest e = indexed rest (read-writes s byte head in-place) (read-shaped s byte head in-place) (e ∙ rw nodes-are)
+  nodes-are : nodesRead n (drop 8 s) ≡ problemOf s .nodes
+  unfolding problemOf
+  nodes-are = rw (h .count)
 
-            pub zero-within : (t rest : List ℕ) → t ≡ offsetsFrom 8 (nodesRead n (drop 8 s)) ++ rest → (0 < n) × Within s t 0
-            zero-within t rest e = let some = read-shaped s byte head in-place .some in (omega (arith, states-are), record { sheet = sheet-from t rest e; below = some })
+  -- a table that begins with the offsets makes a sheet, which has a state
+  pub zero-within : Bytes s → (t rest : List ℕ) → t ≡ offsetsFrom 8 (nodesRead n (drop 8 s)) ++ rest → (0 < n) × Within s t 0
+  zero-within byte t rest e =
+      let shaped = read-shaped s byte (h .head) in-place in
+      let some : 0 < n = omega (arith, shaped .some, states-are) in
+      (some, record { sheet = indexed rest (read-writes s byte (h .head) in-place) shaped (e ∙ rw nodes-are); below = shaped .some })
 
-            pub table-is : (t rest : List ℕ) → t ≡ offsetsFrom 8 (nodesRead n (drop 8 s)) ++ drop n rest → t ≡ offsetsFrom 8 (problemOf s .nodes) ++ drop (states (problemOf s)) rest
-            table-is t rest e = e ∙ rw (nodes-are, states-are)
-
-pub kind-is : (s : List ℕ) → kindOf (getD s 3 0) ≡ problemOf s .kind
-unfolding problemOf
-kind-is s = refl
+  -- the table by its problem
+  pub table-is : (t rest : List ℕ) → t ≡ offsetsFrom 8 (nodesRead n (drop 8 s)) ++ drop n rest → t ≡ indexedBefore s rest
+  table-is t rest e = e ∙ rw (nodes-are, states-are)
 
 -- the first no of questions numbered from n is none, or n or more
-first-from : (n : ℕ) (asked : List Question) → (firstNo n asked ≡ 0) ⊎ (n ≤ firstNo n asked)
+pub first-from : (n : ℕ) (asked : List Question) → (firstNo n asked ≡ 0) ⊎ (n ≤ firstNo n asked)
 unfolding firstNo
 first-from n [] = inl refl
 first-from n (ask ∷ more) = go (ask tt) refl (first-from (suc n) more)
@@ -141,43 +144,70 @@ first-from n (ask ∷ more) = go (ask tt) refl (first-from (suc n) more)
     go true e (inr l) = inr (rw e (omega arith))
     go false e _ = inr (rw e (omega arith))
 
+-- the table t once it is cleared: all zeros
+abbrev pub cleared : List ℕ → List ℕ
+cleared t = take 0 t ++ replicate (length t - 0) 0
+
+pub cleared-zeros : (t : List ℕ) → cleared t ≡ replicate (length t) 0
+cleared-zeros t = let z : length t - 0 ≡ length t = omega arith in rw z
+
 -- The verdict, and the table once questions 1 to 8 have been put.
 module _ (s t : List ℕ) where
-  pub short-table : length t < maxStates → (Refused 1 ≡ verdict (sheetRefusal s (length t))) × (t ≡ checkedTable s t)
-  unfolding checkedTable sheetRefusal firstNo question1 verdict onRefusal refusedTable
-  short-table h = rw (lt-leb maxStates (length t) h) (refl, refl)
+  pub short-table : length t < maxStates →
+      (Refused 1 ≡ verdict (sheetRefusal s (length t))) × (t ≡ askedTable s t) × (t ≡ checkedTable s t)
+  unfolding askedTable checkedTable sheetRefusal firstNo question1 verdict onRefusal refusedTable
+  short-table h = rw (lt-leb maxStates (length t) h) (refl, refl, refl)
 
-  module _ (ge : maxStates ≤ length t) (r : ℕ) (is : r ≡ firstNo 2 (sheetQuestions s)) where
-    refusal-is : sheetRefusal s (length t) ≡ r
+  module _ (ge : maxStates ≤ length t) where
+    -- question 1 is answered yes
+    refusal-is : sheetRefusal s (length t) ≡ firstNo 2 (sheetQuestions s)
     unfolding sheetRefusal question1
-    refusal-is = yes 1 (λ _. question1 (length t)) (sheetQuestions s) (le-leb maxStates (length t) ge) ∙ sym is
+    refusal-is = yes 1 (λ _. question1 (length t)) (sheetQuestions s) (le-leb maxStates (length t) ge)
 
-    -- an accepted sheet's head and its number of states
-    pub accepted-head : r ≡ 0 → Bytes s → (n : ℕ) → n ≡ be16 s 4 → (n ≡ states (problemOf s)) × (n ≤ maxStates) × (8 ≤ length s)
-    accepted-head none byte n count =
-        let y = none-no 1 (sheetQuestions s) (sym is ∙ none) in
-        let h = head-says s (y .1 .0) in
-        (count ∙ sym (states-read s), omega arith, h .2)
+    module _ (r : ℕ) (is : r ≡ firstNo 2 (sheetQuestions s)) where
+      pub accepted-table : (t′ : List ℕ) → r ≡ 0 → t′ ≡ indexedBefore s t →
+          (Accepted ≡ verdict (sheetRefusal s (length t))) × (t′ ≡ askedTable s t)
+      unfolding askedTable verdict onRefusal
+      accepted-table t′ none e = rw (refusal-is, ← is, none) (refl, e)
 
-    pub accepted-table : (n : ℕ) → n ≡ states (problemOf s) → n ≤ maxStates → (t′ t″ : List ℕ) → r ≡ 0 → t′ ≡ offsetsFrom 8 (problemOf s .nodes) ++ drop (states (problemOf s)) t →
-        t″ ≡ take n t′ ++ replicate (length t′ - n) 0 → (Accepted ≡ verdict (sheetRefusal s (length t))) × (t″ ≡ checkedTable s t)
-    unfolding checkedTable verdict onRefusal indexTable
-    accepted-table n count le t′ t″ none first last =
-        let offsets : List ℕ = offsetsFrom 8 (problemOf s .nodes) in
-        let wide : length offsets ≡ n = offsets-count 8 (problemOf s .nodes) ∙ sym count in
-        let long : length t′ ≡ length t = rw (first, length-append, length-drop) (omega arith) in
-        let front : take n t′ ≡ offsets = rw first (take-at offsets _ n wide) in
-        rw (refusal-is, none) (refl, last ∙ rw (front, long, count))
+      pub refused-table : (t′ t″ : List ℕ) → (r ≡ 0 → ⊥) → length t′ ≡ length t → t″ ≡ cleared t′ →
+          (Refused r ≡ verdict (sheetRefusal s (length t))) × (t″ ≡ askedTable s t)
+      unfolding askedTable verdict onRefusal refusedTable
+      refused-table t′ t″ some long last = rw (refusal-is, ← is) (go r two)
+        where
+          two : 2 ≤ r
+          two = ⊎-elim (λ z. absurd (some (is ∙ z))) (λ l. rw is l) (first-from 2 (sheetQuestions s))
 
-    pub refused-table : (t′ t″ : List ℕ) → (r ≡ 0 → ⊥) → length t′ ≡ length t → t″ ≡ take 0 t′ ++ replicate (length t′ - 0) 0 →
-        (Refused r ≡ verdict (sheetRefusal s (length t))) × (t″ ≡ checkedTable s t)
-    unfolding checkedTable verdict onRefusal refusedTable
-    refused-table t′ t″ some long last = rw refusal-is (go r two)
-      where
-        two : 2 ≤ r
-        two = ⊎-elim (λ z. absurd (some (is ∙ z))) (λ l. rw is l) (first-from 2 (sheetQuestions s))
+          go : (k : ℕ) → 2 ≤ k → (Refused k ≡ verdict k) × (t″ ≡ onRefusal k (λ _. indexedBefore s t) (refusedTable t))
+          go zero le = absurd (omega arith)
+          go (suc zero) le = absurd (omega arith)
+          go (suc (suc k)) le = (refl, last ∙ cleared-zeros t′ ∙ rw long)
 
-        go : (k : ℕ) → 2 ≤ k → (Refused k ≡ verdict k) × (t″ ≡ onRefusal k (λ _. indexTable (problemOf s) (length t)) (refusedTable t))
-        go zero le = absurd (omega arith)
-        go (suc zero) le = absurd (omega arith)
-        go (suc (suc k)) le = let z : length t′ - 0 ≡ length t = omega arith in (refl, last ∙ rw z)
+-- zeros less the first n are zeros
+zeros-left : (m n : ℕ) → drop {A = ℕ} n (replicate m 0) ≡ replicate (m - n) 0
+zeros-left m zero = let e : m - 0 ≡ m = omega arith in rw e
+zeros-left zero (suc n) = let e : 0 - suc n ≡ 0 = omega arith in rw e
+zeros-left (suc m) (suc n) = let e : suc m - suc n ≡ m - n = omega arith in rw e (zeros-left m n)
+
+-- a cleared table that begins with the stages' offsets, or is refused, is as the table t becomes, but where question 1 refuses
+pub from-cleared : (s t : List ℕ) (k : ℕ) → (k ≡ 0) ⊎ (2 ≤ k) →
+    onRefusal k (λ _. indexedBefore s (cleared t)) (refusedTable (cleared t))
+    ≡ onRefusal k (λ _. indexTable (problemOf s) (length t)) (refusedTable t)
+unfolding onRefusal indexTable refusedTable
+from-cleared s t zero _ = rw (cleared-zeros, zeros-left)
+from-cleared s t (suc zero) (inl z) = absurd (omega arith)
+from-cleared s t (suc zero) (inr l) = absurd (omega arith)
+from-cleared s t (suc (suc k)) _ = rw (cleared-zeros, length-replicate)
+
+-- a cleared table is as long as it was
+pub cleared-length : (t : List ℕ) → length (cleared t) ≡ length t
+cleared-length t = rw (cleared-zeros, length-replicate)
+
+-- the questions put with a table t that was cleared first
+pub cleared-table : (s t t″ : List ℕ) {v : Verdict} → maxStates ≤ length t → v ≡ verdict (sheetRefusal s (length (cleared t))) →
+    t″ ≡ askedTable s (cleared t) → (v ≡ verdict (sheetRefusal s (length t))) × (t″ ≡ checkedTable s t)
+unfolding askedTable checkedTable
+cleared-table s t t″ ge answer table =
+    let long = cleared-length t in
+    let number : (sheetRefusal s (length t) ≡ 0) ⊎ (2 ≤ sheetRefusal s (length t)) = rw (refusal-is s t ge) (first-from 2 (sheetQuestions s)) in
+    (rw long at answer, (rw long at table) ∙ from-cleared s t (sheetRefusal s (length t)) number)

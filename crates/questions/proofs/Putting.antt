@@ -9,18 +9,18 @@ use lib.ListN.{length}
 use Rattle.model.specs.Tests.{all-true, every-true}
 use Rattle.model.specs.Problem.{Node, terminal, decision, Problem, Cell, states, nodeAt, cellOf, solved}
 use Rattle.model.specs.Format.{actionsOf}
-use Rattle.model.specs.Read.{kindOf}
-use Rattle.model.specs.Questions.{chosenInRange, cellInRange, question5}
+use Rattle.model.specs.Questions.{chosenInRange, cellInRange, question5, question6}
 use Rattle.questions.specs.declared.states.Question.{Question}
 use Rattle.questions.specs.declared.states.Question.the-variants.{Bounds, Marks}
-use Rattle.questions.specs.Put.{Ordered, ChosenExists, Before}
+use Rattle.questions.specs.Put.{ChosenExists, Before}
 
 module _ (p : Problem) (cells : List Cell) (question : Question) (before : Before question p cells) where
-  pub bounds-ordered : {kind : ℕ} → kindOf kind ≡ p .kind → question ≡ Bounds → Ordered p kind
-  bounds-ordered k e = record { six = subst (λ (x : Question). Before x p cells) e before; same = k }
+  -- questions 7 and 8 suppose a yes to question 6
+  pub bounds-ordered : question ≡ Bounds → question6 p ≡ true
+  bounds-ordered e = subst (λ (x : Question). Before x p cells) e before
 
-  pub marks-ordered : {kind : ℕ} → kindOf kind ≡ p .kind → question ≡ Marks → Ordered p kind
-  marks-ordered k e = record { six = subst (λ (x : Question). Before x p cells) e before .1; same = k }
+  pub marks-ordered : question ≡ Marks → question6 p ≡ true
+  marks-ordered e = subst (λ (x : Question). Before x p cells) e before .1
 
   -- question 5 gives that a solved decision's chosen action exists
   pub marks-chosen : question ≡ Marks → (s : ℕ) → s < states p → solved (cellOf cells s) ≡ true → ChosenExists p cells s

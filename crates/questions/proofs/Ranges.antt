@@ -10,13 +10,13 @@ use lib.ListN.{length, drop}
 use Rattle.model.specs.Tests.{fork, all, all-one}
 use Rattle.model.specs.Problem.{Node, terminal, decision, Cell, nodeAt, cellOf, valueOf, solved}
 use Rattle.model.specs.Format.{actionsOf, actionOffset}
-use Rattle.model.specs.Read.{actionRead, kindOf, problemOf, cellsOf}
+use Rattle.model.specs.Read.{actionRead, problemOf, cellsOf}
 use Rattle.model.specs.QValue.{ceiling, q}
-use Rattle.model.specs.Questions.{maxCost, costsInRange, chosenInRange, cellInRange, allSolved, passedBy, markEarned}
+use Rattle.model.specs.Questions.{maxCost, costsInRange, chosenInRange, cellInRange, question6, allSolved, passedBy, markEarned}
 use Rattle.sheet.specs.Sheet.{Terminal, Decision, Priced, costOf}
-use Rattle.sheet.proofs.Laws.{actionsAt, is-terminal, few-actions}
-use Rattle.questions.specs.Put.{rangesAt, countInRange, Ordered, ChosenExists}
-use Rattle.questions.proofs.Stepping.{Along, along-is, along-priced, earned-is}
+use Rattle.sheet.proofs.Laws.{actionsAt, is-terminal}
+use Rattle.questions.specs.Put.{rangesAt, countInRange, ChosenExists}
+use Rattle.questions.proofs.Stepping.{Along, some, along-is, along-priced, earned-is}
 
 both-false : (b c : Bool) → c ≡ false → false ≡ all (b ∷ c ∷ [])
 unfolding all
@@ -84,19 +84,20 @@ earned-terminal {s} {t} {i} d = rw (is-terminal (nodeAt (problemOf s) i) (d .tag
 
 module _ {s t : List ℕ} {i : ℕ} (d : Decision s t i) (ex : ChosenExists (problemOf s) (cellsOf s) i) (k : ℕ) (is : k ≡ cellOf (cellsOf s) i .chosen) where
   pub chosen-below : k < length (actionsAt (problemOf s) i)
-  chosen-below = rw is (ex (few-actions (d .within .sheet) i (d .within .below) (d .tag) .0))
+  chosen-below = rw is (ex (some d))
 
   module _ (o : ℕ) (at : o ≡ actionOffset (problemOf s) i k) where
     along : Along s i k o
     along = record { upto = omega (arith, chosen-below); at = at }
 
-    pub chosen-priced : {kind : ℕ} → Ordered (problemOf s) kind → Priced s t o
-    chosen-priced {kind} ord = along-priced d along chosen-below kind ord
+    pub chosen-priced : question6 (problemOf s) ≡ true → Priced s t o
+    chosen-priced six = along-priced d along chosen-below six
 
-    module _ {kind : ℕ} (ord : Ordered (problemOf s) kind) {value price : ℕ} (v : value ≡ valueOf (cellsOf s) i) (x : price ≡ q (kindOf kind) (valueOf (cellsOf s)) (actionRead (drop o s))) where
+    module _ {value price : ℕ} (v : value ≡ valueOf (cellsOf s) i)
+        (x : price ≡ q (problemOf s .kind) (valueOf (cellsOf s)) (actionRead (drop o s))) where
       passed : markEarned (problemOf s) (cellsOf s) i (nodeAt (problemOf s) i) ≡ all (eqb value price ∷ allSolved (cellsOf s) (actionRead (drop o s) .successors) ∷ [])
       unfolding passedBy
-      passed = earned-is (problemOf s) i (d .tag) (cellsOf s) ∙ rw (v, x, ord .same, along-is d along chosen-below, is)
+      passed = earned-is (problemOf s) i (d .tag) (cellsOf s) ∙ rw (v, x, along-is d along chosen-below, is)
 
       pub earned-decision : value ≡ price → (b : Bool) → b ≡ allSolved (cellsOf s) (actionRead (drop o s) .successors) → b ≡ markEarned (problemOf s) (cellsOf s) i (nodeAt (problemOf s) i)
       unfolding all

@@ -11,12 +11,13 @@ use lib.Dec.{eqb, leb, ltb}
 use borrow.Author.Tests.{eq-eqb, ne-eqb, eqb-true, eqb-false, leb-true, leb-false, le-leb, lt-leb}
 use lib.ListN.{length, getD, set, drop, take, replicate, length-drop, length-set, take-append-drop, replicate-append-replicate}
 use lib.Seq.{take-all, drop-drop, take-suc-set, drop-set-lt}
-use Rattle.model.specs.Tests.{also, all, all-true, all-one}
+use Rattle.model.specs.Tests.{fork, also, all, all-true, all-one}
 use Rattle.model.specs.Format.{be16, actionsSize, nodeSize, offsetsFrom}
 use Rattle.model.specs.Read.{actionFits, actionsGood, actionsRead, actionsLong, terminalFits, headerFits, decisionFits, nodesGood, nodesRead}
 use Rattle.layout.proofs.Bytes.{getD-from, be16-from}
 use Rattle.model.specs.Questions.{maxStates, question3}
 use Rattle.layout.proofs.Index.{actions-size}
+use Rattle.questions.specs.Put.{fieldLength}
 
 -- a test on a place and on what is left
 leb-left : (a k n : ℕ) → a ≤ n → leb (a + k) n ≡ leb k (n - a)
@@ -58,22 +59,29 @@ module _ (s : List ℕ) (o n : ℕ) (le : o ≤ length s) (is : n ≡ be16 s (o 
   unfolding headerFits all
   header-length t e = rw (← getD-from s o, t, here, ne-eqb n 6 e)
 
-  pub action-low : n < 6 → false ≡ actionFits (drop o s)
-  unfolding actionFits all
+  -- the length of a check's field: 0 by the first test that fails
+  pub action-low : n < 6 → 0 ≡ fieldLength (drop o s)
+  unfolding fieldLength actionFits all
   action-low l = rw (here, lt-leb 6 n l)
 
-  pub action-high : 6 ≤ n → 36 < n → false ≡ actionFits (drop o s)
-  unfolding actionFits all
-  action-high a l = rw (here, le-leb 6 n a, lt-leb n 36 l)
+  module _ (a : 6 ≤ n) where
+    pub action-high : 36 < n → 0 ≡ fieldLength (drop o s)
+    unfolding fieldLength actionFits all
+    action-high l = rw (here, le-leb 6 n a, lt-leb n 36 l)
 
-  pub action-odd : 6 ≤ n → n ≤ 36 → (n % 2 ≡ 0 → ⊥) → false ≡ actionFits (drop o s)
-  unfolding actionFits all
-  action-odd a b e = rw (here, le-leb 6 n a, le-leb n 36 b, ne-eqb (n % 2) 0 e)
+    module _ (b : n ≤ 36) where
+      pub action-odd : (n % 2 ≡ 0 → ⊥) → 0 ≡ fieldLength (drop o s)
+      unfolding fieldLength actionFits all
+      action-odd e = rw (here, le-leb 6 n a, le-leb n 36 b, ne-eqb (n % 2) 0 e)
 
-  pub action-even : 6 ≤ n → n ≤ 36 → n % 2 ≡ 0 → leb (o + 3 + n) (length s) ≡ actionFits (drop o s)
-  unfolding actionFits all
-  action-even a b e =
-      rw (here, le-leb 6 n a, le-leb n 36 b, e, length-drop o s, add-assoc o 3 n) (leb-left o (3 + n) (length s) le ∙ sym (all-one _))
+      module _ (e : n % 2 ≡ 0) where
+        pub action-cut : length s < o + 3 + n → 0 ≡ fieldLength (drop o s)
+        unfolding fieldLength actionFits all
+        action-cut l = rw (here, le-leb 6 n a, le-leb n 36 b, e, length-drop o s, lt-leb (3 + n) (length s - o) (omega arith))
+
+        pub action-whole : o + 3 + n ≤ length s → 3 + n ≡ fieldLength (drop o s)
+        unfolding fieldLength actionFits all
+        action-whole l = rw (here, le-leb 6 n a, le-leb n 36 b, e, length-drop o s, le-leb (3 + n) (length s - o) (omega arith))
 
 pub header-tag : (s : List ℕ) (o : ℕ) → (getD s o 0 ≡ 3 → ⊥) → false ≡ headerFits (drop o s)
 unfolding headerFits all
@@ -88,22 +96,46 @@ pub header-room : (s : List ℕ) (o : ℕ) → o ≤ length s → headerFits (dr
 unfolding headerFits
 header-room s o le h = let w : 9 ≤ length (drop o s) = leb-true _ _ (all-true _ h .1 .1 .0) in omega (arith, length-drop o s)
 
-pub action-room : (s : List ℕ) (o n : ℕ) → o ≤ length s → n ≡ be16 s (o + 1) → actionFits (drop o s) ≡ true → o + (3 + n) ≤ length s
+action-room : (s : List ℕ) (o l : ℕ) → o ≤ length s → l ≡ 3 + be16 (drop o s) 1 → actionFits (drop o s) ≡ true →
+    o + l ≤ length s
 unfolding actionFits
-action-room s o n le is h = let w : 3 + be16 (drop o s) 1 ≤ length (drop o s) = leb-true _ _ (all-true _ h .1 .1 .1 .0) in omega (arith, length-drop o s, here s o n le is)
+action-room s o l le is h =
+    let w : 3 + be16 (drop o s) 1 ≤ length (drop o s) = leb-true _ _ (all-true _ h .1 .1 .1 .0) in
+    omega (arith, length-drop o s)
+
+-- what the length of a check's field says
+module _ (bs : List ℕ) (l : ℕ) (is : l ≡ fieldLength bs) where
+  by-fits : (b : Bool) → actionFits bs ≡ b → l ≡ fork b (λ _. 3 + be16 bs 1) (λ _. 0)
+  unfolding fieldLength
+  by-fits b e = is ∙ rw e
+
+  field-fits : 0 < l → (actionFits bs ≡ true) × (l ≡ 3 + be16 bs 1)
+  field-fits some = go (actionFits bs) refl
+    where
+      go : (b : Bool) → actionFits bs ≡ b → (b ≡ true) × (l ≡ 3 + be16 bs 1)
+      go true e = (refl, by-fits true e)
+      go false e = absurd (omega (arith, by-fits false e))
+
+  field-unfit : l ≡ 0 → actionFits bs ≡ false
+  field-unfit none = go (actionFits bs) refl
+    where
+      go : (b : Bool) → actionFits bs ≡ b → b ≡ false
+      go true e = absurd (omega (arith, by-fits true e))
+      go false e = refl
 
 -- one check more, none, a bad one, one too many
 module _ (s : List ℕ) (o n : ℕ) where
   left-one : n < 16 → 16 - n ≡ suc (16 - (n + 1))
   left-one lt = omega arith
 
-  pub more-good : n < 16 → getD s o 0 ≡ 4 → actionFits (drop o s) ≡ true → (c : ℕ) → c ≡ be16 s (o + 1) → actionsGood (16 - n) (drop o s) ≡ actionsGood (16 - (n + 1)) (drop (o + (3 + c)) s)
-  unfolding actionsGood also
-  more-good lt t f c e = rw (left-one lt, ← getD-from s o, t, f, ← be16-from s o 1, ← e, drop-drop (3 + c) o s)
+  module _ (lt : n < 16) (t : getD s o 0 ≡ 4) (l : ℕ) (e : l ≡ 3 + be16 (drop o s) 1) where
+    more-good : actionFits (drop o s) ≡ true → actionsGood (16 - n) (drop o s) ≡ actionsGood (16 - (n + 1)) (drop (o + l) s)
+    unfolding actionsGood also
+    more-good f = rw (left-one lt, ← getD-from s o, t, f, ← e, drop-drop l o s)
 
-  pub more-long : n < 16 → getD s o 0 ≡ 4 → (c : ℕ) → c ≡ be16 s (o + 1) → o + actionsLong (16 - n) (drop o s) ≡ o + (3 + c) + actionsLong (16 - (n + 1)) (drop (o + (3 + c)) s)
-  unfolding actionsLong
-  more-long lt t c e = rw (left-one lt, ← getD-from s o, t, ← be16-from s o 1, ← e, drop-drop (3 + c) o s) (omega arith)
+    more-long : o + actionsLong (16 - n) (drop o s) ≡ o + l + actionsLong (16 - (n + 1)) (drop (o + l) s)
+    unfolding actionsLong
+    more-long = rw (left-one lt, ← getD-from s o, t, ← e, drop-drop l o s) (omega arith)
 
   pub bad-check : n < 16 → getD s o 0 ≡ 4 → actionFits (drop o s) ≡ false → actionsGood (16 - n) (drop o s) ≡ false
   unfolding actionsGood also
@@ -196,69 +228,84 @@ pub staging-begins : (s t : List ℕ) (states : ℕ) → 8 ≤ length s → Stag
 staging-begins s t states le = let z : states - 0 ≡ states = omega arith in record { upto = omega arith; inside = le; long = refl; good = rw z; entries = rw z; beyond = refl }
 
 -- all stages are read
-pub staging-ends : (s t₀ t : List ℕ) (states at i : ℕ) → Staging s t₀ states t at i → i ≡ states →
+pub staging-ends : {s t₀ t : List ℕ} {states at i : ℕ} → Staging s t₀ states t at i → i ≡ states →
     (eqb at (length s) ≡ nodesGood states (drop 8 s)) × (t ≡ offsetsFrom 8 (nodesRead states (drop 8 s)) ++ drop states t₀)
 unfolding nodesGood
-staging-ends s t₀ t states at i h e =
+staging-ends {s} {t₀} {t} {states} {at} {i} h e =
     let z : states - i ≡ 0 = omega arith in
-    (sym (h .good ∙ rw (z, length-drop at s) (sym (eqb-left at (length s) (h .inside)))), all-entries s t t₀ _ states at (rw e at (h .entries)) (h .beyond))
+    let table = all-entries s t t₀ _ states at (rw e at (h .entries)) (h .beyond) in
+    (sym (h .good ∙ rw (z, length-drop at s) (sym (eqb-left at (length s) (h .inside)))), table)
 
--- a turn of the loop over stages, which stores `at` as entry i
-module _ (s t₀ t : List ℕ) (states at i v : ℕ) (h : Staging s t₀ states t at i) (not : i ≡ states → ⊥) (wide : states ≤ length t₀) (is : v ≡ at) where
-  lt : i < states
-  lt = omega (arith, h .upto)
+-- A turn of the loop over stages: there is a stage i, and v, where it stands, is stored as entry i.
+pub record Turn (s t₀ : List ℕ) (states : ℕ) (t : List ℕ) (at i v : ℕ) : Type 0 where
+  pub staging : Staging s t₀ states t at i
+  pub below : i < states
+  pub wide : states ≤ length t₀
+  pub entry : v ≡ at
 
+module _ {s t₀ t : List ℕ} {states at i v : ℕ} (g : Turn s t₀ states t at i v) where
+  h : Staging s t₀ states t at i
+  h = g .staging
+
+  -- the stage is read up to e
   stored : (e : ℕ) → e ≤ length s → nodesGood (states - i) (drop at s) ≡ nodesGood (states - (i + 1)) (drop e s) →
-      offsetsFrom at (nodesRead (states - i) (drop at s)) ≡ at ∷ offsetsFrom e (nodesRead (states - (i + 1)) (drop e s)) → Staging s t₀ states (set t i v) e (i + 1)
+      offsetsFrom at (nodesRead (states - i) (drop at s)) ≡ at ∷ offsetsFrom e (nodesRead (states - (i + 1)) (drop e s)) →
+      Staging s t₀ states (set t i v) e (i + 1)
   stored e le good place = record {
-    upto = omega (arith, lt);
+    upto = omega (arith, g .below);
     inside = le;
     long = simp length-set (h .long);
     good = h .good ∙ good;
-    entries = entry-more t _ _ i at v _ (omega (arith, h .long, lt)) is place (h .entries);
-    beyond = drop-set-lt states t i v lt ∙ h .beyond;
+    entries = entry-more t _ _ i at v _ (omega (arith, h .long, g .below, g .wide)) (g .entry) place (h .entries);
+    beyond = drop-set-lt states t i v (g .below) ∙ h .beyond;
   }
 
   module _ (two : getD s at 0 ≡ 2) where
     pub terminal-read : terminalFits (drop at s) ≡ true → Staging s t₀ states (set t i v) (at + 12) (i + 1)
-    terminal-read f = stored (at + 12) (terminal-room s at (h .inside) f) (terminal-good s states i at lt two f) (terminal-place s states i at lt two)
+    terminal-read f =
+        let good = terminal-good s states i at (g .below) two f in
+        stored (at + 12) (terminal-room s at (h .inside) f) good (terminal-place s states i at (g .below) two)
 
     pub terminal-out : terminalFits (drop at s) ≡ false → nodesGood states (drop 8 s) ≡ false
-    terminal-out f = h .good ∙ terminal-bad s states i at lt two f
+    terminal-out f = h .good ∙ terminal-bad s states i at (g .below) two f
 
   module _ (two : getD s at 0 ≡ 2 → ⊥) where
     pub header-out : headerFits (drop at s) ≡ false → nodesGood states (drop 8 s) ≡ false
-    header-out f = h .good ∙ header-bad s states i at lt two f
+    header-out f = h .good ∙ header-bad s states i at (g .below) two f
 
     module _ (f : headerFits (drop at s) ≡ true) where
       pub checking-begins : Checking s (at + 9) (at + 9) 0
       checking-begins = record { upto = omega arith; inside = header-room s at (h .inside) f; good = refl; long = refl }
 
-      module _ (o n : ℕ) (k : Checking s (at + 9) o n) where
+      module _ {o n : ℕ} (k : Checking s (at + 9) o n) where
         -- no check stands at o: the stage is read
         pub decision-read : (getD s o 0 ≡ 4 → ⊥) → Staging s t₀ states (set t i v) o (i + 1)
         decision-read none =
             let good = k .good ∙ end-good s o n (16 - n) none in
             let end : at + 9 + actionsLong 16 (drop (at + 9) s) ≡ o = omega (arith, k .long, end-long s o n (16 - n) none) in
-            stored o (k .inside) (decision-good s states i at lt two f good o end) (decision-place s states i at lt two good o end)
+            let place = decision-place s states i at (g .below) two good o end in
+            stored o (k .inside) (decision-good s states i at (g .below) two f good o end) place
 
         -- one stands at o that is the 17th, or does not fit
-        pub action-out : getD s o 0 ≡ 4 → (n ≡ 16) ⊎ (actionFits (drop o s) ≡ false) → nodesGood states (drop 8 s) ≡ false
-        action-out four why = h .good ∙ checks-bad s states i at lt two f (k .good ∙ bad why)
+        pub action-out : getD s o 0 ≡ 4 → (n ≡ 16) ⊎ (fieldLength (drop o s) ≡ 0) → nodesGood states (drop 8 s) ≡ false
+        action-out four why = h .good ∙ checks-bad s states i at (g .below) two f (k .good ∙ bad why)
           where
-            bad : (n ≡ 16) ⊎ (actionFits (drop o s) ≡ false) → actionsGood (16 - n) (drop o s) ≡ false
+            bad : (n ≡ 16) ⊎ (fieldLength (drop o s) ≡ 0) → actionsGood (16 - n) (drop o s) ≡ false
             bad (inl many) = many-checks s o n many four
-            bad (inr unfit) = ⊎-elim (λ many. many-checks s o n many four) (λ l. bad-check s o n l four unfit) (eq-or-lt-of-le (k .upto))
+            bad (inr none) =
+                let unfit = field-unfit (drop o s) (fieldLength (drop o s)) refl none in
+                ⊎-elim (λ many. many-checks s o n many four) (λ l. bad-check s o n l four unfit) (eq-or-lt-of-le (k .upto))
 
 -- a turn of the loop over checks
-pub action-read : (s : List ℕ) (at₀ o n c : ℕ) → Checking s at₀ o n → (n ≡ 16 → ⊥) → getD s o 0 ≡ 4 → actionFits (drop o s) ≡ true → c ≡ be16 s (o + 1) → Checking s at₀ (o + (3 + c)) (n + 1)
-action-read s at₀ o n c k few four f is =
-    let l : n < 16 = omega (arith, k .upto) in
+pub action-read : {s : List ℕ} {at₀ o n l : ℕ} → Checking s at₀ o n → n < 16 → getD s o 0 ≡ 4 →
+    l ≡ fieldLength (drop o s) → 0 < l → Checking s at₀ (o + l) (n + 1)
+action-read {s} {o = o} {n} {l} k lt four e some =
+    let (fits, is) = field-fits (drop o s) l e some in
     record {
       upto = omega arith;
-      inside = action-room s o c (k .inside) is f;
-      good = k .good ∙ more-good s o n l four f c is;
-      long = k .long ∙ more-long s o n l four c is;
+      inside = action-room s o l (k .inside) is fits;
+      good = k .good ∙ more-good s o n lt four l is fits;
+      long = k .long ∙ more-long s o n lt four l is;
     }
 
 -- one entry more of a table cleared from `from` on, and all of them

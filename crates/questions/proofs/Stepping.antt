@@ -5,20 +5,20 @@ use mathlib.Core.Bool.{Bool, true, false}
 use mathlib.Core.List.{List, [], _∷_}
 use native.Mathlib.Omega.{arith}
 use native.Mathlib.Numerals.{add-one}
-use borrow.Author.Tests.{le-leb, lt-leb, lt-ltb, le-ltb, eqb-true, eqb-false}
+use borrow.Author.Tests.{le-leb, lt-leb, lt-ltb, le-ltb, ltb-true, ltb-false, eqb-true, eqb-false}
 use lib.Dec.{leb, ltb, eqb}
 use lib.ListN.{length, getD, drop, drop-of-length-le}
 use lib.Seq.{drop-cons}
 use Rattle.model.specs.Tests.{also, all, every, true-also, every-true, every-false}
 use Rattle.model.specs.Problem.{decision, Problem, Cell, states, nodeAt, actionAt, cellOf, valueOf, solved}
 use Rattle.model.specs.Format.{terminalTag, decisionTag, actionTag, tagOf, actionsOf, actionOffset}
-use Rattle.model.specs.Read.{actionFits, actionRead, kindOf, problemOf, cellsOf}
+use Rattle.model.specs.Read.{actionFits, actionRead, problemOf, cellsOf}
 use Rattle.model.specs.QValue.{q}
 use Rattle.model.specs.Questions.{maxCost, costsInRange, ascending, successorsInOrder, question6, valueUnder, allSolved, passedBy, markEarned}
 use Rattle.layout.proofs.Shapes.{member, ascending-in}
 use Rattle.sheet.specs.Sheet.{Sheet, Within, Terminal, Decision, Priced, costOf}
 use Rattle.sheet.proofs.Laws.{actionsAt, not-terminal, is-terminal, is-decision, few-actions, action-stands, action-ends, action-is, action-in-place, action-priced, action-after}
-use Rattle.questions.specs.Put.{countInRange, Ordered}
+use Rattle.questions.specs.Put.{countInRange}
 
 -- every: one more that passes, all of them, one that does not
 pub every-more : (k : ℕ) (f : ℕ → Bool) → every k f ≡ true → f k ≡ true → every (k + 1) f ≡ true
@@ -64,27 +64,44 @@ module _ (p : Problem) (s : ℕ) (tag : tagOf (nodeAt p s) ≡ decisionTag) wher
   unfolding markEarned actionsOf
   earned-is cells = rw node
 
+-- a test of which nothing more is asked
+also-yes : (b : Bool) → also (all (true ∷ b ∷ [])) (λ _. true) ≡ b
+unfolding also all
+also-yes true = refl
+also-yes false = refl
+
+-- t need not be held to n where u, above t, is
+skipped : (t n u : ℕ) (more : Unit {0} → Bool) →
+    also (all (true ∷ ltb t n ∷ [])) (λ _. also (all (ltb t u ∷ ltb u n ∷ [])) more)
+    ≡ also (all (ltb t u ∷ ltb u n ∷ [])) more
+unfolding also all
+skipped t n u more = go (ltb t n) (ltb t u) (ltb u n) refl refl refl
+  where
+    go : (b c d : Bool) → ltb t n ≡ b → ltb t u ≡ c → ltb u n ≡ d →
+        also (all (true ∷ b ∷ [])) (λ _. also (all (c ∷ d ∷ [])) more) ≡ also (all (c ∷ d ∷ [])) more
+    go true c d _ _ _ = refl
+    go false false d _ _ _ = refl
+    go false true false _ _ _ = refl
+    go false true true e f g = absurd (omega (arith, ltb-false t n e, ltb-true t u f, ltb-true u n g))
+
 -- successors in turn, from number j on
 module _ (ts : List ℕ) (j t : ℕ) (lt : j < length ts) (at : t ≡ getD ts j 0) where
   rest : drop j ts ≡ t ∷ drop (j + 1) ts
   rest = drop-cons ts j 0 lt ∙ rw (add-one, at)
 
   module _ (last n : ℕ) where
-    pub ascends : last < t → t < n → ascending last n (drop j ts) ≡ ascending t n (drop (j + 1) ts)
-    unfolding ascending also all
-    ascends a b = rw (rest, lt-ltb last t a, lt-ltb t n b)
-
     pub not-above : t ≤ last → false ≡ ascending last n (drop j ts)
     unfolding ascending also all
     not-above a = rw (rest, le-ltb last t a)
 
-    pub not-below : n ≤ t → false ≡ ascending last n (drop j ts)
-    unfolding ascending also all
-    not-below b = rw (rest, le-ltb t n b) (go (ltb last t) _)
-      where
-        go : (c : Bool) (more : Unit {0} → Bool) → false ≡ also (all (c ∷ false ∷ [])) more
-        go true more = refl
-        go false more = refl
+    -- the last of them is held to n, and one before it need not be: another above it is
+    pub last-below : last < t → j + 1 ≡ length ts → ltb t n ≡ ascending last n (drop j ts)
+    unfolding ascending
+    last-below a e = rw (rest, lt-ltb last t a, drop-of-length-le ts {i = j + 1} (omega arith)) (sym (also-yes (ltb t n)))
+
+    pub ascends : last < t → j + 1 < length ts → ascending last n (drop j ts) ≡ ascending t n (drop (j + 1) ts)
+    unfolding ascending
+    ascends a more = rw (rest, lt-ltb last t a, drop-cons ts (j + 1) 0 more) (skipped t n _ _)
 
   module _ (cells : List Cell) where
     pub solved-more : solved (cellOf cells t) ≡ true → allSolved cells (drop j ts) ≡ allSolved cells (drop (j + 1) ts)
@@ -94,10 +111,6 @@ module _ (ts : List ℕ) (j t : ℕ) (lt : j < length ts) (at : t ≡ getD ts j 
     pub solved-not : solved (cellOf cells t) ≡ false → false ≡ allSolved cells (drop j ts)
     unfolding allSolved also
     solved-not h = rw (rest, h)
-
-pub ascending-end : (ts : List ℕ) (last n j : ℕ) → length ts ≤ j → ascending last n (drop j ts) ≡ true
-unfolding ascending
-ascending-end ts last n j le = rw (drop-of-length-le ts le)
 
 pub solved-end : (ts : List ℕ) (cells : List Cell) (j : ℕ) → length ts ≤ j → allSolved cells (drop j ts) ≡ true
 unfolding allSolved
@@ -130,8 +143,12 @@ module _ {s t : List ℕ} {i : ℕ} (d : Decision s t i) where
   h : Sheet s t (problemOf s) (cellsOf s)
   h = d .within .sheet
 
+  -- it has 1 to 16 actions
   pub few : length (actionsAt (problemOf s) i) ≤ 16
   few = few-actions h i (d .within .below) (d .tag) .1
+
+  pub some : 0 < length (actionsAt (problemOf s) i)
+  some = few-actions h i (d .within .below) (d .tag) .0
 
   pub along-begins : (o : ℕ) → o ≡ actionOffset (problemOf s) i 0 → Along s i 0 o
   along-begins o e = record { upto = omega arith; at = e }
@@ -154,8 +171,10 @@ module _ {s t : List ℕ} {i : ℕ} (d : Decision s t i) where
       along-next r e = record { upto = omega arith; at = action-after h i (d .within .below) (d .tag) k o (a .at) lk r e }
 
       -- in an ordered sheet its successors are states
-      pub along-priced : (kind : ℕ) → Ordered (problemOf s) kind → Priced s t o
-      along-priced kind ord = action-priced h i (d .within .below) (d .tag) k o (a .at) lk (below (problemOf s) i (d .within .below) (d .tag) (ord .six) k lk)
+      pub along-priced : question6 (problemOf s) ≡ true → Priced s t o
+      along-priced six =
+          let lt = d .within .below in
+          action-priced h i lt (d .tag) k o (a .at) lk (below (problemOf s) i lt (d .tag) six k lk)
 
   -- the count, from the test of all costs
   pub counted-all : (k : ℕ) → every k (costOfFits (problemOf s) i) ≡ true → k ≤ length (actionsAt (problemOf s) i) → length (actionsAt (problemOf s) i) ≤ k → k ≡ countInRange (nodeAt (problemOf s) i)
@@ -179,10 +198,11 @@ pub under-terminal : {s t : List ℕ} {i : ℕ} → Terminal s t i → leb (valu
 unfolding valueUnder costOf
 under-terminal {s} {t} {i} d = rw (is-terminal (nodeAt (problemOf s) i) (d .tag))
 
-module _ {s t : List ℕ} {i k o : ℕ} (d : Decision s t i) (a : Along s i k o) (lk : k < length (actionsAt (problemOf s) i)) {kind : ℕ} (ord : Ordered (problemOf s) kind) {value price : ℕ}
-    (v : value ≡ valueOf (cellsOf s) i) (x : price ≡ q (kindOf kind) (valueOf (cellsOf s)) (actionRead (drop o s))) where
+module _ {s t : List ℕ} {i k o : ℕ} (d : Decision s t i) (a : Along s i k o) (lk : k < length (actionsAt (problemOf s) i))
+    {value price : ℕ} (v : value ≡ valueOf (cellsOf s) i)
+    (x : price ≡ q (problemOf s .kind) (valueOf (cellsOf s)) (actionRead (drop o s))) where
   priced : price ≡ q (problemOf s .kind) (valueOf (cellsOf s)) (actionAt (actionsAt (problemOf s) i) k)
-  priced = x ∙ rw (ord .same, along-is d a lk)
+  priced = x ∙ rw (along-is d a lk)
 
   pub price-over : price < value → priceOver (problemOf s) (cellsOf s) i k ≡ false
   price-over lt = lt-leb _ _ (rw (v, priced) at lt)

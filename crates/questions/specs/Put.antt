@@ -1,14 +1,16 @@
 -- Questions 5 to 8 of one state, and what each may suppose of the questions before it.
-use Prim.Native.Nat.{ℕ, _<_}
+use Prim.Native.Nat.{ℕ, _+_, _<_}
 use mathlib.Core.Path.{_≡_}
 use mathlib.Core.Bool.{Bool, true}
-use mathlib.Core.List.{List, [], _∷_}
-use lib.ListN.{length}
+use mathlib.Core.List.{List, [], _∷_, _++_}
+use lib.ListN.{length, drop}
 use Rattle.model.specs.Tests.{fork, all}
 use Rattle.model.specs.Problem.{Node, Problem, Cell, states, nodeAt, cellOf, solved}
-use Rattle.model.specs.Format.{actionsOf}
-use Rattle.model.specs.Read.{kindOf}
-use Rattle.model.specs.Questions.{costsInRange, cellInRange, successorsInOrder, valueUnder, markEarned, question5, question6, question7, question8, firstNo}
+use Rattle.model.specs.Format.{be16, offsetsFrom, actionsOf}
+use Rattle.model.specs.Read.{actionFits, problemOf}
+use Rattle.model.specs.Questions.{costsInRange, cellInRange, successorsInOrder, valueUnder, markEarned}
+use Rattle.model.specs.Questions.{question5, question6, question7, question8, firstNo, sheetRefusal}
+use Rattle.model.specs.Report.{onRefusal, refusedTable}
 use Rattle.questions.specs.declared.states.Question.{Question}
 use Rattle.questions.specs.declared.states.Question.the-variants.{Ranges, Order, Bounds, Marks}
 
@@ -19,11 +21,6 @@ rangesAt n c = all (costsInRange n ∷ cellInRange n c ∷ [])
 -- the number of a decision's actions, 0 where the cost of one is out of range
 unfoldable pub countInRange : Node → ℕ
 countInRange n = fork (costsInRange n) (λ _. length (actionsOf n)) (λ _. 0)
-
--- question 6, answered yes, and the kind's byte
-pub record Ordered (p : Problem) (kind : ℕ) : Type 0 where
-  pub six : question6 p ≡ true
-  pub same : kindOf kind ≡ p .kind
 
 -- a decision's chosen action is one of its actions
 abbrev pub ChosenExists : Problem → List Cell → ℕ → Type 0
@@ -46,3 +43,15 @@ passesAt Marks p cells s = fork (solved (cellOf cells s)) (λ _. markEarned p ce
 -- the number of the first of questions 5 to 8 whose answer is no, 0 where there is none
 unfoldable pub statesNo : Problem → List Cell → ℕ
 statesNo p cells = firstNo 5 ((λ _. question5 p cells) ∷ (λ _. question6 p) ∷ (λ _. question7 p cells) ∷ (λ _. question8 p cells) ∷ [])
+
+-- the length of a check's field, of the bytes that it begins: 0 where it does not fit
+unfoldable pub fieldLength : List ℕ → ℕ
+fieldLength bs = fork (actionFits bs) (λ _. 3 + be16 bs 1) (λ _. 0)
+
+-- the table t once the offsets of the stages of s are its first entries
+abbrev pub indexedBefore : List ℕ → List ℕ → List ℕ
+indexedBefore s t = offsetsFrom 8 (problemOf s .nodes) ++ drop (states (problemOf s)) t
+
+-- the table's content once questions 1 to 8 have been put to the sheet s, but for the clearing past the last stage
+unfoldable pub askedTable : List ℕ → List ℕ → List ℕ
+askedTable s t = onRefusal (sheetRefusal s (length t)) (λ _. indexedBefore s t) (refusedTable t)

@@ -8,11 +8,11 @@ ghost use Prim.Native.Nat.{ℕ, _-_, _<_, _≤_};
 ghost use lib.ListN.{length, drop, take, replicate};
 ghost use Rattle.model.specs.Problem.{states};
 ghost use Rattle.model.specs.Format.{offsetsFrom};
-ghost use Rattle.model.specs.Read.{kindOf, problemOf, cellsOf};
+ghost use Rattle.model.specs.Read.{problemOf, cellsOf};
 ghost use Rattle.model.specs.Questions.{maxStates, question3, sheetQuestions, firstNo, sheetRefusal};
 ghost use Rattle.model.specs.Report.{checkedTable};
 ghost use Rattle.sheet.specs.Sheet.{Within};
-ghost use Rattle.questions.specs.Put.{statesNo};
+ghost use Rattle.questions.specs.Put.{statesNo, askedTable};
 ghost use Rattle.questions.specs.Verdicts.{verdict};
 use model::MAX_BYTES;
 use model::MAX_STATES;
@@ -58,15 +58,15 @@ fn head_in_place(s: &[u8]) -> bool
 }
 
 // Questions 5 to 8 of a sheet that is in place: the number of the first whose answer is no, 0 where there is none.
-fn states_no(sheet: &[u8], table: &[u32], kind: u8, n: usize) -> u32
+fn states_no(sheet: &[u8], table: &[u32], n: usize) -> u32
     requires { ⌜ (0 < n) × Within (now sheet) (now table) 0 ⌝ }
-    requires { ⌜ (n ≡ states (problemOf (now sheet))) × (kindOf kind ≡ problemOf (now sheet) .kind) ⌝ }
+    requires { ⌜ n ≡ states (problemOf (now sheet)) ⌝ }
     ensures { λ r. ⌜ r ≡ statesNo (problemOf (now (sheet .entry))) (cellsOf (now (sheet .entry))) ⌝ }
 {
-    if all_pass(sheet, table, kind, n, Question::Ranges) {
-        if all_pass(sheet, table, kind, n, Question::Order) {
-            if all_pass(sheet, table, kind, n, Question::Bounds) {
-                if all_pass(sheet, table, kind, n, Question::Marks) {
+    if all_pass(sheet, table, n, Question::Ranges) {
+        if all_pass(sheet, table, n, Question::Order) {
+            if all_pass(sheet, table, n, Question::Bounds) {
+                if all_pass(sheet, table, n, Question::Marks) {
                     0
                 } else {
                     8
@@ -97,7 +97,7 @@ fn first_no(sheet: &[u8], table: &mut [u32]) -> u32
     if head_in_place(sheet) {
         let n = place(get16(sheet, 4));
         if stages_in_place(sheet, table, n) {
-            states_no(sheet, table, sheet[3], n)
+            states_no(sheet, table, n)
         } else {
             4
         }
@@ -117,6 +117,24 @@ pub fn clear(table: &mut [u32], from: usize)
     }
 }
 
+// Questions 1 to 8 put to any bytes, with any table. The table's later content is unchanged at 1, all zero at 2 to 8, and when accepted it begins with
+// the stages' offsets and stays as it was past the last stage.
+pub fn ask(sheet: &[u8], table: &mut [u32]) -> Verdict
+    ensures answer { λ r. ⌜ r ≡ verdict (sheetRefusal (now (sheet .entry)) (length (now (table .entry)))) ⌝ }
+    ensures table { λ _. ⌜ now (table .exit) ≡ askedTable (now (sheet .entry)) (now (table .entry)) ⌝ }
+{
+    if table.len() < MAX_STATES {
+        return Verdict::Refused(1);
+    }
+    let n = first_no(sheet, table);
+    if n == 0 {
+        Verdict::Accepted
+    } else {
+        clear(table, 0);
+        Verdict::Refused(n)
+    }
+}
+
 // Questions 1 to 8 put to any bytes, with any table. The table's later content is unchanged at 1, all zero at 2 to 8, and the stages' offsets and then
 // zeros when accepted.
 pub fn check(sheet: &[u8], table: &mut [u32]) -> Verdict
@@ -126,13 +144,6 @@ pub fn check(sheet: &[u8], table: &mut [u32]) -> Verdict
     if table.len() < MAX_STATES {
         return Verdict::Refused(1);
     }
-    let n = first_no(sheet, table);
-    if n == 0 {
-        let states = place(get16(sheet, 4));
-        clear(table, states);
-        Verdict::Accepted
-    } else {
-        clear(table, 0);
-        Verdict::Refused(n)
-    }
+    clear(table, 0);
+    ask(sheet, table)
 }

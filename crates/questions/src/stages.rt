@@ -5,8 +5,9 @@ ghost use mathlib.Core.List.{List, _++_};
 ghost use Prim.Native.Nat.{ℕ, _+_, _<_, _≤_};
 ghost use lib.ListN.{length, drop};
 ghost use Rattle.model.specs.Format.{be16, offsetsFrom};
-ghost use Rattle.model.specs.Read.{actionFits, terminalFits, headerFits, nodesGood, nodesRead};
+ghost use Rattle.model.specs.Read.{terminalFits, headerFits, nodesGood, nodesRead};
 ghost use Rattle.model.specs.Questions.{maxBytes};
+ghost use Rattle.questions.specs.Put.{fieldLength};
 use sheet::numbers::byte_at;
 use sheet::numbers::narrow;
 
@@ -22,7 +23,11 @@ fn content_at(s: &[u8], at: usize) -> usize
     requires { ⌜ at ≤ maxBytes ⌝ }
     ensures { λ r. ⌜ (r ≡ be16 (now (s .entry)) (at + 1)) × (r < 65536) ⌝ }
 {
-    small(byte_at(s, at + 1)) * 256 + small(byte_at(s, at + 2))
+    if at + 2 < s.len() {
+        small(s[at + 1]) * 256 + small(s[at + 2])
+    } else {
+        small(byte_at(s, at + 1)) * 256
+    }
 }
 
 // Is an ending's field, whose tag has been read, all there?
@@ -57,22 +62,22 @@ fn header_fits(s: &[u8], at: usize) -> bool
     }
 }
 
-// Has a check's field, whose tag has been read, a content of 6 to 36 bytes, even, all there?
-fn action_fits(s: &[u8], at: usize) -> bool
+// The length of a check's field, whose tag has been read: 0 where its content has not 6 to 36 bytes, even, all there.
+fn action_length(s: &[u8], at: usize) -> usize
     requires { ⌜ (at ≤ length (now s)) × (length (now s) ≤ maxBytes) ⌝ }
-    ensures { λ r. ⌜ r ≡ actionFits (drop at (now (s .entry))) ⌝ }
+    ensures { λ r. ⌜ (r ≡ fieldLength (drop at (now (s .entry)))) × (r < 40) ⌝ }
 {
     let n = content_at(s, at);
     if n < 6 {
-        return false;
+        return 0;
     }
     if n > 36 {
-        return false;
+        return 0;
     }
     if n % 2 == 0 {
-        at + 3 + n <= s.len()
+        if at + 3 + n <= s.len() { 3 + n } else { 0 }
     } else {
-        false
+        0
     }
 }
 
@@ -107,8 +112,9 @@ pub(crate) fn stages_in_place(s: &[u8], table: &mut [u32], states: usize) -> boo
                     break 'stages;
                 }
                 n += 1;
-                if action_fits(s, at) {
-                    at += 3 + content_at(s, at);
+                let l = action_length(s, at);
+                if 0 < l {
+                    at += l;
                 } else {
                     break 'stages;
                 }

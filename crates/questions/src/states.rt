@@ -7,10 +7,10 @@ ghost use lib.ListN.{length, drop};
 ghost use Rattle.model.specs.Tests.{every};
 ghost use Rattle.model.specs.Problem.{nodeAt, cellOf, states};
 ghost use Rattle.model.specs.Format.{actionsOf, actionOffset};
-ghost use Rattle.model.specs.Read.{kindOf, problemOf, cellsOf, actionFits, actionRead};
+ghost use Rattle.model.specs.Read.{problemOf, cellsOf, actionFits, actionRead};
 ghost use Rattle.model.specs.Questions.{ascending, successorsInOrder, valueUnder, allSolved, passedBy, markEarned, question6};
 ghost use Rattle.sheet.specs.Sheet.{Within, Decision, Priced};
-ghost use Rattle.questions.specs.Put.{rangesAt, countInRange, Ordered, ChosenExists, Before, passesAt};
+ghost use Rattle.questions.specs.Put.{rangesAt, countInRange, ChosenExists, Before, passesAt};
 use model::CEILING;
 use model::MAX_COST;
 use sheet::fields::action_cost;
@@ -85,26 +85,25 @@ fn in_range(sheet: &[u8], table: &[u32], state: usize) -> bool
     if mark == 1 { chosen < n } else { chosen == 0 }
 }
 
-// Are the successors of the action at `at` strictly ascending, above `low` and below `n`?
+// Are the successors of the action at `at` strictly ascending, above `low` and below `n`? Where they ascend, the last of them alone is held to `n`.
 fn ascending_at(sheet: &[u8], at: usize, low: usize, n: usize) -> bool
     requires { ⌜ actionFits (drop at (now sheet)) ≡ true ⌝ }
     ensures { λ r. ⌜ r ≡ ascending low n (actionRead (drop at (now (sheet .entry))) .successors) ⌝ }
 {
-    let m = successor_count(sheet, at);
+    let end = next_action(sheet, at);
     let mut last = low;
     let mut j: usize = 0;
-    while j < m {
+    loop {
         let t = successor(sheet, at, j);
         if t <= last {
             return false;
         }
-        if t >= n {
-            return false;
-        }
         last = t;
         j += 1;
+        if end <= at + 7 + 2 * j {
+            return last < n;
+        }
     }
-    true
 }
 
 // Question 6 of one state.
@@ -117,21 +116,25 @@ fn in_order(sheet: &[u8], table: &[u32], state: usize, n: usize) -> bool
     }
     let mut at: usize = first_action(sheet, table, state);
     let mut k: usize = 0;
-    while action_here(sheet, at) {
+    loop {
         if ascending_at(sheet, at, state, n) {
             at = next_action(sheet, at);
             k += 1;
         } else {
             return false;
         }
+        if action_here(sheet, at) {
+            continue;
+        } else {
+            return true;
+        }
     }
-    true
 }
 
 // Question 7 of one state.
-fn value_under(sheet: &[u8], table: &[u32], kind: u8, state: usize) -> bool
+fn value_under(sheet: &[u8], table: &[u32], state: usize) -> bool
     requires { ⌜ Within (now sheet) (now table) state ⌝ }
-    requires { ⌜ Ordered (problemOf (now sheet)) kind ⌝ }
+    requires { ⌜ question6 (problemOf (now sheet)) ≡ true ⌝ }
     ensures { λ r. ⌜ r ≡ valueUnder (problemOf (now (sheet .entry))) (cellsOf (now (sheet .entry))) state (nodeAt (problemOf (now (sheet .entry))) state) ⌝ }
 {
     let value = value_at(sheet, table, state);
@@ -141,7 +144,7 @@ fn value_under(sheet: &[u8], table: &[u32], kind: u8, state: usize) -> bool
     let mut at: usize = first_action(sheet, table, state);
     let mut k: usize = 0;
     while action_here(sheet, at) {
-        let x = price(sheet, table, kind, at);
+        let x = price(sheet, table, at);
         if x.price < value {
             return false;
         }
@@ -185,9 +188,9 @@ pub fn action_at(sheet: &[u8], table: &[u32], state: usize, i: usize) -> usize
 }
 
 // Question 8 of one solved state.
-fn mark_earned(sheet: &[u8], table: &[u32], kind: u8, state: usize) -> bool
+fn mark_earned(sheet: &[u8], table: &[u32], state: usize) -> bool
     requires { ⌜ Within (now sheet) (now table) state ⌝ }
-    requires { ⌜ Ordered (problemOf (now sheet)) kind ⌝ }
+    requires { ⌜ question6 (problemOf (now sheet)) ≡ true ⌝ }
     requires { ⌜ ChosenExists (problemOf (now sheet)) (cellsOf (now sheet)) state ⌝ }
     ensures { λ r. ⌜ r ≡ markEarned (problemOf (now (sheet .entry))) (cellsOf (now (sheet .entry))) state (nodeAt (problemOf (now (sheet .entry))) state) ⌝ }
 {
@@ -197,7 +200,7 @@ fn mark_earned(sheet: &[u8], table: &[u32], kind: u8, state: usize) -> bool
     }
     let chosen = place(wide(chosen_at(sheet, table, state)));
     let at = action_at(sheet, table, state, chosen);
-    let x = price(sheet, table, kind, at);
+    let x = price(sheet, table, at);
     if value == x.price {
         all_solved(sheet, table, at)
     } else {
@@ -206,19 +209,19 @@ fn mark_earned(sheet: &[u8], table: &[u32], kind: u8, state: usize) -> bool
 }
 
 // A question of one state, the questions before it answered yes for the whole sheet.
-fn passes(sheet: &[u8], table: &[u32], kind: u8, n: usize, state: usize, question: Question) -> bool
+fn passes(sheet: &[u8], table: &[u32], n: usize, state: usize, question: Question) -> bool
     requires { ⌜ Within (now sheet) (now table) state ⌝ }
-    requires { ⌜ (n ≡ states (problemOf (now sheet))) × (kindOf kind ≡ problemOf (now sheet) .kind) ⌝ }
+    requires { ⌜ n ≡ states (problemOf (now sheet)) ⌝ }
     requires { ⌜ Before question (problemOf (now sheet)) (cellsOf (now sheet)) ⌝ }
     ensures { λ r. ⌜ r ≡ passesAt question (problemOf (now (sheet .entry))) (cellsOf (now (sheet .entry))) state ⌝ }
 {
     match question {
         Question::Ranges => in_range(sheet, table, state),
         Question::Order => in_order(sheet, table, state, n),
-        Question::Bounds => value_under(sheet, table, kind, state),
+        Question::Bounds => value_under(sheet, table, state),
         Question::Marks => {
             if solved_at(sheet, table, state) {
-                mark_earned(sheet, table, kind, state)
+                mark_earned(sheet, table, state)
             } else {
                 true
             }
@@ -227,15 +230,15 @@ fn passes(sheet: &[u8], table: &[u32], kind: u8, n: usize, state: usize, questio
 }
 
 // A question of every state.
-pub(crate) fn all_pass(sheet: &[u8], table: &[u32], kind: u8, n: usize, question: Question) -> bool
+pub(crate) fn all_pass(sheet: &[u8], table: &[u32], n: usize, question: Question) -> bool
     requires { ⌜ (0 < n) × Within (now sheet) (now table) 0 ⌝ }
-    requires { ⌜ (n ≡ states (problemOf (now sheet))) × (kindOf kind ≡ problemOf (now sheet) .kind) ⌝ }
+    requires { ⌜ n ≡ states (problemOf (now sheet)) ⌝ }
     requires { ⌜ Before question (problemOf (now sheet)) (cellsOf (now sheet)) ⌝ }
     ensures { λ r. ⌜ r ≡ every n (passesAt question (problemOf (now (sheet .entry))) (cellsOf (now (sheet .entry)))) ⌝ }
 {
     let mut s: usize = 0;
     while s < n {
-        if passes(sheet, table, kind, n, s, question) {
+        if passes(sheet, table, n, s, question) {
             s += 1;
         } else {
             return false;

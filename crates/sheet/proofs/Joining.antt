@@ -1,13 +1,15 @@
 -- Pricing as loops do it: with what has been joined so far, or the least so far, in hand.
-use Prim.Native.Nat.{ℕ, zero, suc, _+_, _<_, _≤_, min, max}
-use mathlib.Core.Path.{_≡_, refl, sym}
+use Prim.Native.Nat.{ℕ, zero, suc, _+_, _*_, _<_, _≤_, min, max}
+use mathlib.Core.Path.{_≡_, refl, _∙_, sym}
 use mathlib.Core.List.{List, [], _∷_}
 use native.Mathlib.Omega.{arith}
+use native.Mathlib.Numerals.{add-one}
 use lib.ListN.{length, getD, drop}
 use lib.Seq.{drop-cons, drop-length}
 use Rattle.model.specs.Problem.{Kind, worst, whole, Action, action, actionAt}
-use Rattle.model.specs.Read.{kindOf}
+use Rattle.model.specs.Read.{kindOf, problemOf}
 use Rattle.model.specs.QValue.{join, joined, leastFrom, least}
+use Rattle.sheet.specs.Sheet.{ofKind}
 
 join-assoc : (k : Kind) (a b c : ℕ) → join k a (join k b c) ≡ join k (join k a b) c
 unfolding join
@@ -19,16 +21,40 @@ unfolding join
 join-zero worst a = omega arith
 join-zero whole a = omega arith
 
--- by the byte of the kind
-pub join-worst : (b x y : ℕ) → b ≡ 0 → join (kindOf b) x y ≡ max x y
-unfolding join kindOf
-join-worst zero x y e = refl
-join-worst (suc b) x y e = absurd (omega arith)
+-- a join of each kind
+join-most : (x y : ℕ) → max x y ≡ join worst x y
+unfolding join
+join-most x y = refl
 
-pub join-whole : (b x y : ℕ) → (b ≡ 0 → ⊥) → join (kindOf b) x y ≡ x + y
-unfolding join kindOf
-join-whole zero x y ne = absurd (ne refl)
-join-whole (suc b) x y ne = refl
+join-total : (x y : ℕ) → x + y ≡ join whole x y
+unfolding join
+join-total x y = refl
+
+-- by the byte of the kind
+of-byte : (b x y : ℕ) → ((b ≡ 0 → x ≡ ofKind (kindOf b) x y) × ((b ≡ 0 → ⊥) → y ≡ ofKind (kindOf b) x y))
+unfolding ofKind kindOf
+of-byte zero x y = (λ e. refl, λ ne. absurd (ne refl))
+of-byte (suc b) x y = (λ e. absurd (omega arith), λ ne. refl)
+
+module _ (s : List ℕ) (x y : ℕ) where
+  pub of-worst : getD s 3 0 ≡ 0 → x ≡ ofKind (problemOf s .kind) x y
+  unfolding problemOf
+  of-worst = of-byte (getD s 3 0) x y .0
+
+  pub of-whole : (getD s 3 0 ≡ 0 → ⊥) → y ≡ ofKind (problemOf s .kind) x y
+  unfolding problemOf
+  of-whole = of-byte (getD s 3 0) x y .1
+
+pub of-kind-fits : (k : Kind) (x y : ℕ) → ofKind k x y ≤ x + y
+unfolding ofKind
+of-kind-fits worst x y = omega arith
+of-kind-fits whole x y = omega arith
+
+-- the largest and the sum, both at hand
+joined-of : (k : Kind) (v : ℕ → ℕ) (ts : List ℕ) → joined k v ts ≡ ofKind k (joined worst v ts) (joined whole v ts)
+unfolding ofKind
+joined-of worst v ts = refl
+joined-of whole v ts = refl
 
 module _ (k : Kind) (v : ℕ → ℕ) (ts : List ℕ) where
   -- x joins the values before number j
@@ -46,14 +72,41 @@ module _ (k : Kind) (v : ℕ → ℕ) (ts : List ℕ) where
   unfolding joined
   joined-end x = rw (drop-length ts) (join-zero k x .0)
 
+-- `total` and `most` are the sum and the largest of the values before number j
+pub record Sums (v : ℕ → ℕ) (ts : List ℕ) (total most j : ℕ) : Type 0 where
+  pub summed : total ≤ 4294967296 * j
+  pub largest : most < 4294967296
+  pub total-is : joined whole v ts ≡ joinedFrom whole v ts j total
+  pub most-is : joined worst v ts ≡ joinedFrom worst v ts j most
+
+module _ {v : ℕ → ℕ} {ts : List ℕ} where
+  pub sums-none : Sums v ts 0 0 0
+  sums-none = record { summed = omega arith; largest = omega arith; total-is = joined-begin whole v ts; most-is = joined-begin worst v ts }
+
+  module _ {total most j : ℕ} (h : Sums v ts total most j) where
+    -- successor number j is t, whose value is x
+    pub sums-more : {t x top : ℕ} → j < length ts → t ≡ getD ts j 0 → x ≡ v t → x < 4294967296 → top ≡ max most x → Sums v ts (total + x) top (j + 1)
+    sums-more lt at e small larger = record {
+      summed = omega (arith, h .summed);
+      largest = omega (arith, h .largest, larger);
+      total-is = rw (add-one, join-total, e, at) (h .total-is ∙ joined-turn whole v ts j total lt);
+      most-is = rw (add-one, larger, join-most, e, at) (h .most-is ∙ joined-turn worst v ts j most lt);
+    }
+
+    pub sums-all : (k : Kind) → j ≡ length ts → joined k v ts ≡ ofKind k most total
+    sums-all k e =
+        let all : joined whole v ts ≡ total = rw e at (h .total-is) ∙ joined-end whole v ts total in
+        let top : joined worst v ts ≡ most = rw e at (h .most-is) ∙ joined-end worst v ts most in
+        joined-of k v ts ∙ rw (all, top)
+
 module _ (f : Action → ℕ) (acts : List Action) where
   -- x is the least before number i
   abbrev pub leastSoFar : ℕ → ℕ → ℕ
   leastSoFar i x = leastFrom x f (drop i acts)
 
-  pub least-turn : (i x : ℕ) → i < length acts → leastSoFar i x ≡ leastSoFar (suc i) (min x (f (actionAt acts i)))
+  pub least-turn : (x : ℕ) {i y : ℕ} → i < length acts → y ≡ min x (f (actionAt acts i)) → leastSoFar i x ≡ leastSoFar (i + 1) y
   unfolding leastFrom
-  least-turn i x lt = rw (drop-cons acts i (action 0 []) lt)
+  least-turn x {i} lt e = rw (add-one, drop-cons acts i (action 0 []) lt, e)
 
   pub least-end : (x : ℕ) → leastSoFar (length acts) x ≡ x
   unfolding leastFrom

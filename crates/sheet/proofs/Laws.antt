@@ -78,6 +78,9 @@ pub action-inside : (s : List ℕ) (o : ℕ) → actionFits (drop o s) ≡ true 
     (length (actionRead (drop o s) .successors) ≤ 16) × (o + 7 + 2 * length (actionRead (drop o s) .successors) ≤ length s)
 action-inside s o fits = omega (arith, content-of s o fits, count-of s o fits)
 
+pub some-successor : (s : List ℕ) (o : ℕ) → actionFits (drop o s) ≡ true → 0 < length (actionRead (drop o s) .successors)
+some-successor s o fits = omega (arith, content-of s o fits, count-of s o fits)
+
 -- a table that begins with the offsets makes a sheet of what is written
 pub indexed : {s t : List ℕ} {p : Problem} {cells : List Cell} (rest : List ℕ) → s ≡ write p cells → Shaped p cells → t ≡ offsetsFrom 8 (p .nodes) ++ rest → Sheet s t p cells
 indexed {p} rest is shaped e = record {
@@ -193,6 +196,10 @@ module _ {s t : List ℕ} {p : Problem} {cells : List Cell} (h : Sheet s t p cel
     with-chosen k =
         let is = is-decision (nodeAt p i) tag in
         with-cell _ _ (rw (h .is) (chosen-stored p cells i lt (actionsOf (nodeAt p i)) is k has-cell)) (rw is tt)
+
+-- the kind's byte is inside
+pub head-room : {s t : List ℕ} {p : Problem} {cells : List Cell} → Sheet s t p cells → 3 < length s
+head-room h = omega (arith, nine-room h 0 (h .shaped .some))
 
 pub with-decision-solved : {s t : List ℕ} {p : Problem} {cells : List Cell} → Sheet s t p cells → (i : ℕ) → i < states p → tagOf (nodeAt p i) ≡ decisionTag → (k : ℕ) →
     Sheet (set (set s (valueOffset p i + 4) 1) (valueOffset p i + 5) k) t p (setSolved cells i k)

@@ -1,14 +1,14 @@
 // The price of a check, for both kinds. Sums are kept in 64 bits before they are cut.
 ghost use mathlib.Core.Path.{_≡_};
-ghost use Prim.Native.Nat.{ℕ, _+_, _<_, _≤_};
+ghost use Prim.Native.Nat.{ℕ, _+_, _<_, _≤_, max};
 ghost use lib.ListN.{length, drop};
 ghost use Rattle.model.specs.Problem.{valueOf};
-ghost use Rattle.model.specs.Read.{kindOf, problemOf, cellsOf, actionRead};
-ghost use Rattle.model.specs.QValue.{cut, join, q};
-ghost use Rattle.sheet.specs.Sheet.{Priced};
+ghost use Rattle.model.specs.Read.{problemOf, cellsOf, actionRead};
+ghost use Rattle.model.specs.QValue.{cut, q};
+ghost use Rattle.sheet.specs.Sheet.{Priced, ofKind};
 use super::fields::action_cost;
+use super::fields::next_action;
 use super::fields::successor;
-use super::fields::successor_count;
 use super::fields::value_at;
 use super::numbers::long;
 use model::CEILING;
@@ -19,16 +19,19 @@ pub struct Pricing {
     pub price: u32,
 }
 
-// Two values joined: the larger on a worst sheet (kind 0), the sum on a whole one.
-fn join_two(kind: u8, x: u64, y: u64) -> u64
-    requires { ⌜ x + y < 18446744073709551616 ⌝ }
-    ensures { λ r. ⌜ (r ≡ join (kindOf kind) x y) × (r ≤ x + y) ⌝ }
+// The larger of two values.
+fn larger(x: u64, y: u64) -> u64
+    ensures { λ r. ⌜ r ≡ max x y ⌝ }
 {
-    if kind == 0 {
-        if x < y { y } else { x }
-    } else {
-        x + y
-    }
+    if x < y { y } else { x }
+}
+
+// Of the largest value and the sum, the one that the sheet's kind counts: the largest on a worst sheet (kind 0), the sum on a whole one.
+fn of_kind(sheet: &[u8], most: u64, total: u64) -> u64
+    requires { ⌜ 3 < length (now sheet) ⌝ }
+    ensures { λ r. ⌜ r ≡ ofKind (problemOf (now (sheet .entry)) .kind) most total ⌝ }
+{
+    if sheet[3] == 0 { most } else { total }
 }
 
 // A number, cut to the ceiling.
@@ -38,21 +41,29 @@ fn cut_off(x: u64) -> u32
     if x < LONG_CEILING { x as u32 } else { CEILING }
 }
 
-// The price of the action at `at`, by the current values.
-pub fn price(sheet: &[u8], table: &[u32], kind: u8, at: usize) -> Pricing
+// The price of the action at `at`, by the sheet's kind and the current values. An action has a successor, so the loop is tested at its end, and both
+// the largest value and the sum are kept: one loop without a test of the kind.
+pub fn price(sheet: &[u8], table: &[u32], at: usize) -> Pricing
     requires { ⌜ Priced (now sheet) (now table) at ⌝ }
-    ensures { λ r. ⌜ (r .price ≡ q (kindOf kind) (valueOf (cellsOf (now (sheet .entry)))) (actionRead (drop at (now (sheet .entry))))) × (r .price ≤ 1000000000) ⌝ }
+    ensures { λ r. ⌜ (r .price ≡ q (problemOf (now (sheet .entry)) .kind) (valueOf (cellsOf (now (sheet .entry)))) (actionRead (drop at (now (sheet .entry))))) ×
+        (r .price ≤ 1000000000) ⌝ }
 {
-    let n = successor_count(sheet, at);
-    let cost = long(action_cost(sheet, at));
+    let end = next_action(sheet, at);
     let mut total: u64 = 0;
+    let mut most: u64 = 0;
     let mut j: usize = 0;
-    while j < n {
+    loop {
         let t = successor(sheet, at, j);
         j += 1;
-        total = join_two(kind, total, long(value_at(sheet, table, t)));
+        let x = long(value_at(sheet, table, t));
+        total += x;
+        most = larger(most, x);
+        if end <= at + 7 + 2 * j {
+            break;
+        }
     }
+    let cost = long(action_cost(sheet, at));
     Pricing {
-        price: cut_off(cost + total),
+        price: cut_off(cost + of_kind(sheet, most, total)),
     }
 }

@@ -67,18 +67,46 @@ module _ (p : Problem) (budget : ℕ) (v : ℕ → Search → Visit) (s : ℕ) w
     unfolding tryAll ifDear onTest
     action-skipped h = rw (left, lt-ltb (valueAt w s) (priceAt p w (actionAt acts i)) h)
 
+    -- an action tried, and what is next where it fails
+    tried-then : (next : Search → Visit) → tryOne p budget v s acts i next w ≡ onVisit (tryOne p budget v s acts i failure w) success next
+    unfolding tryOne onVisit
+    tried-then next = go (visitAll p budget v s (actionAt acts i) (actionAt acts i .successors) w)
+      where
+        go : (r : Visit) → onVisit r (λ w″. success (marked s i w″)) next ≡ onVisit (onVisit r (λ w″. success (marked s i w″)) failure) success next
+        go (success w″) = refl
+        go (failure w″) = refl
+        go (halt w″) = refl
+
     module _ (le : priceAt p w (actionAt acts i) ≤ valueAt w s) where
-      pub action-passes : successorsFrom (actionAt acts i) 0 w ≡ success w′ → actionsFrom acts i w ≡ success (marked s i w′)
-      unfolding tryAll tryOne ifDear onTest onVisit
-      action-passes e = rw (left, le-ltb (valueAt w s) (priceAt p w (actionAt acts i)) le, e)
+      action-tried : actionsFrom acts i w ≡ onVisit (tryOne p budget v s acts i failure w) success (actionsFrom acts (suc i))
+      unfolding tryAll ifDear onTest
+      action-tried = rw (left, le-ltb (valueAt w s) (priceAt p w (actionAt acts i)) le) (tried-then (actionsFrom acts (suc i)))
 
-      pub action-fails : successorsFrom (actionAt acts i) 0 w ≡ failure w′ → actionsFrom acts i w ≡ actionsFrom acts (suc i) w′
-      unfolding tryAll tryOne ifDear onTest onVisit
-      action-fails e = rw (left, le-ltb (valueAt w s) (priceAt p w (actionAt acts i)) le, e)
+      pub action-passes : tryOne p budget v s acts i failure w ≡ success w′ → actionsFrom acts i w ≡ success w′
+      unfolding onVisit
+      action-passes e = action-tried ∙ (rw e)
 
-      pub action-halts : successorsFrom (actionAt acts i) 0 w ≡ halt w′ → actionsFrom acts i w ≡ halt w′
-      unfolding tryAll tryOne ifDear onTest onVisit
-      action-halts e = rw (left, le-ltb (valueAt w s) (priceAt p w (actionAt acts i)) le, e)
+      pub action-fails : tryOne p budget v s acts i failure w ≡ failure w′ → actionsFrom acts i w ≡ actionsFrom acts (suc i) w′
+      unfolding onVisit
+      action-fails e = action-tried ∙ (rw e)
+
+      pub action-halts : tryOne p budget v s acts i failure w ≡ halt w′ → actionsFrom acts i w ≡ halt w′
+      unfolding onVisit
+      action-halts e = action-tried ∙ (rw e)
+
+  -- one action tried, by how the visits to its successors end
+  module _ (acts : List Action) (i : ℕ) (w w′ : Search) where
+    pub try-passes : successorsFrom (actionAt acts i) 0 w ≡ success w′ → tryOne p budget v s acts i failure w ≡ success (marked s i w′)
+    unfolding tryOne onVisit
+    try-passes e = rw e
+
+    pub try-fails : successorsFrom (actionAt acts i) 0 w ≡ failure w′ → tryOne p budget v s acts i failure w ≡ failure w′
+    unfolding tryOne onVisit
+    try-fails e = rw e
+
+    pub try-halts : successorsFrom (actionAt acts i) 0 w ≡ halt w′ → tryOne p budget v s acts i failure w ≡ halt w′
+    unfolding tryOne onVisit
+    try-halts e = rw e
 
   pub actions-end : (acts : List Action) (w : Search) → actionsFrom acts (length acts) w ≡ update budget s (least (priceAt p w) acts) failure w
   unfolding tryAll

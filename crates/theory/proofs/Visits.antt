@@ -222,3 +222,23 @@ module _ (p : Problem) (wf : WellFormed p) (budget : ℕ) where
       on-test (Visited p budget s (w .raises) w) (solvedAt w s) _ _ w
       (λ e. (stay ready, e))
       (λ e. visitOpen-does (visit p budget k) s (λ t w′ lt tn r. visit-does k t w′ (omega arith) tn r) state (nodeAt p s) refl w ready e)
+
+  -- an action of s that is tried and abandoned leaves s and the states before it alone
+  pub abandoned-leads : (s i : ℕ) (acts : List Action) → nodeAt p s ≡ decision acts → (w w′ : Search) → Ready p budget w →
+      priceAt p w (actionAt acts i) ≤ valueAt w s → tryOne p budget (visit p budget (states p)) s acts i failure w ≡ failure w′ → Leads p budget (suc s) w w′
+  unfolding tryOne onVisit
+  abandoned-leads s i acts node w w′ ready le =
+      go (visitAll p budget to s (actionAt acts i) (actionAt acts i .successors) w)
+      (visitAll-does to s does (actionAt acts i) (actionAt acts i .successors) (λ t m. wf .forward s i t acts node m) w ready le)
+    where
+      to : ℕ → Search → Visit
+      to = visit p budget (states p)
+
+      does : Visits s to
+      does t w″ lt tn r = visit-does (states p) t w″ (omega arith) tn r
+
+      go : (r : Visit) → AllVisited p budget s (actionAt acts i) (actionAt acts i .successors) w r → onVisit r (λ w″. success (marked s i w″)) failure ≡ failure w′ →
+          Leads p budget (suc s) w w′
+      go (success w″) x e = let z : _≡_ {A = ℕ} 0 1 = cc in absurd (omega arith)
+      go (failure w″) x e = let same : w″ ≡ w′ = cc in rw (← same) (x .0)
+      go (halt w″) x e = let z : _≡_ {A = ℕ} 0 1 = cc in absurd (omega arith)

@@ -1,5 +1,8 @@
+-- A result too short, a table too short, and else a call on a table of zeros, whose entries become the host's bytes. A line of code put between two
+-- places lengthens the name that is bound for the later one by a `.before`.
 use native.Mathlib.Omega.{arith}
 use borrow.Author.Needs.{needs}
+use Rattle.model.specs.Questions.{maxStates}
 use Rattle.host.proofs.Hosted.{no-room, short-table, long-table}
 use Rattle.host.proofs.ldfs_solve.Statement.{statement}
 use Rattle.host.proofs.ldfs_solve.Tie as tie
@@ -19,14 +22,18 @@ same-length c = search needs
 
 returns-2 : tie.Need-returns-2
 returns-2 c =
-    let a = c .before .before .before .before .before .before .before .before .before .before .args in
-    short-table (a .sheet .now) (a .table .now) (a .budget) (a .result .now) (c .before .before .before .before .before .before .if1 .left) (c .before .before .before .refusal .result) _ (c .before .before .put-answer .ensures) (c .before .before .before .before .before .if2 .taken) (c .before .before .before .refusal .ensures)
+    let told = c .before .before in
+    let short = told .before .before .before in
+    let room = short .before in
+    let a = room .before .before .before .before .args in
+    short-table (a .sheet .now) (a .table .now) (a .budget) (a .result .now) (room .if1 .left) (told .before .refusal .result) _ (told .put-answer .ensures)
+    (short .if2 .taken) (told .before .refusal .ensures)
 
-slice-aggregate-solve : tie.Need-slice-aggregate-solve
-slice-aggregate-solve c = search needs
+slice-aggregate-solve-zeroed : tie.Need-slice-aggregate-solve-zeroed
+slice-aggregate-solve-zeroed c = search needs
 
-solve-requires : tie.Need-solve-requires
-solve-requires c κs = search needs
+solve-zeroed-requires : tie.Need-solve-zeroed-requires
+solve-zeroed-requires c κs = search needs
 
 put-table-requires : tie.Need-put-table-requires
 put-table-requires c κs = search needs
@@ -48,8 +55,15 @@ same-length-4 c = search needs
 
 returns-3 : tie.Need-returns-3
 returns-3 c =
-    let a = c .before .before .before .before .before .before .before .before .before .before .before .before .before .before .before .before .before .before .before .before .before .args in
-    long-table (a .sheet .now) (a .table .now) (a .budget) (a .result .now) (c .before .before .before .before .before .before .before .before .before .before .before .before .before .before .before .before .before .if1 .left) (c .before .before .before .before .before .before .before .before .before .before .before .before .before .solve .result) _ (c .before .before .before .put-answer2 .ensures) 1024 (omega arith) (omega (arith, c .before .before .before .before .before .before .before .before .before .before .before .before .before .before .before .before .if2 .left)) _ (c .before .before .before .before .before .before .before .before .before .before .before .before .before .solve .last .1 .0) _ _ (c .before .before .before .before .before .before .before .before .before .before .before .before .before .solve .ensures) (c .before .before .before .before .before .before .before .put-table .ensures) (c .outcome-number .ensures)
+    let told = c .before .before .before in
+    let put = told .before .before .before .before in
+    let worked = put .before .before .before .before .before .before in
+    let long = worked .before .before .before in
+    let room = long .before in
+    let a = room .before .before .before .before .args in
+    long-table (a .sheet .now) (a .table .now) (a .budget) (a .result .now) (room .if1 .left) (worked .solve-zeroed .result) _ (told .put-answer2 .ensures)
+    maxStates (omega arith) (omega (arith, long .if2 .left)) _ (worked .solve-zeroed .last .1 .0) _ _ (worked .solve-zeroed .ensures) (put .put-table .ensures)
+    (c .outcome-number .ensures)
 
 pub ldfs-solve-spec : {M : Type 1} → statement M
 ldfs-solve-spec =
@@ -60,8 +74,8 @@ ldfs-solve-spec =
     put-answer-requires
     same-length
     returns-2
-    slice-aggregate-solve
-    solve-requires
+    slice-aggregate-solve-zeroed
+    solve-zeroed-requires
     put-table-requires
     put-answer-requires-2
     outcome-number-requires

@@ -1,51 +1,97 @@
-use Prim.Native.Nat.{_-_}
+-- The two loops fill one row of entries: the second goes on where the first, at the table's end, has come to.
+use Prim.Native.Nat.{ℕ, _*_, _-_, _≤_}
+use mathlib.Core.Path.{_≡_, refl, _∙_}
+use mathlib.Core.List.{List}
 use native.Mathlib.Omega.{arith}
 use borrow.Author.Needs.{needs}
+use lib.ListN.{length}
+use Rattle.model.specs.Questions.{maxStates}
 use Rattle.host.proofs.Bytes.{Entered, entered-none, entered-more, entered-all}
 use Rattle.host.proofs.put_table.Statement.{statement}
 use Rattle.host.proofs.put_table.Tie as tie
 
 abbrev Inv-loop : tie.InvT-loop
-Inv-loop bytes₀ table n i₀ bytes i = Entered bytes₀ table n bytes i
+Inv-loop bytes₀ table n i₀ bytes i = (i ≤ maxStates) × Entered bytes₀ table n bytes i
 
 abbrev μ-loop : tie.MeasureT-loop
-μ-loop bytes₀ table n i₀ bytes i = n - i
+μ-loop bytes₀ table n i₀ bytes i = maxStates - i
 
-loop-holds : tie.Need-loop-holds Inv-loop μ-loop
-loop-holds c =
-    entered-none _ _ _
+-- whatever the first loop began with
+abbrev Inv-loop2 : tie.InvT-loop2
+Inv-loop2 bytes₁ table n i₁ bytes i = (length bytes ≡ length bytes₁) × ((b : List ℕ) → Entered b table n bytes₁ i₁ → Entered b table n bytes i)
 
-mul-put32 : tie.Need-mul-put32 Inv-loop μ-loop
-mul-put32 c =
-    omega arith
+abbrev μ-loop2 : tie.MeasureT-loop2
+μ-loop2 bytes₁ table n i₁ bytes i = n - i
 
-entry-requires : tie.Need-entry-requires Inv-loop μ-loop
-entry-requires c κs =
-    tt
+loop-holds : tie.Need-loop-holds Inv-loop μ-loop Inv-loop2 μ-loop2
+loop-holds c = (omega arith, entered-none _ _ _)
 
-put32-requires : tie.Need-put32-requires Inv-loop μ-loop
+mul-put32 : tie.Need-mul-put32 Inv-loop μ-loop Inv-loop2 μ-loop2
+mul-put32 c = omega arith
+
+entry-requires : tie.Need-entry-requires Inv-loop μ-loop Inv-loop2 μ-loop2
+entry-requires c κs = tt
+
+put32-requires : tie.Need-put32-requires Inv-loop μ-loop Inv-loop2 μ-loop2
 put32-requires c κs =
-    (omega (arith, c .before .before .before .before .loop .inv .long), c .entry .ensures .1)
+    let l = c .before .before .before .before in (omega (arith, l .loop .inv .1 .long, l .before .before .pre), c .entry .ensures .1)
 
-add-i : tie.Need-add-i Inv-loop μ-loop
-add-i c =
-    search needs
+add-i : tie.Need-add-i Inv-loop μ-loop Inv-loop2 μ-loop2
+add-i c = search needs
 
-loop-less : tie.Need-loop-less Inv-loop μ-loop
-loop-less c =
-    omega arith
+loop-less : tie.Need-loop-less Inv-loop μ-loop Inv-loop2 μ-loop2
+loop-less c = omega arith
 
-loop-again : tie.Need-loop-again Inv-loop μ-loop
+loop-again : tie.Need-loop-again Inv-loop μ-loop Inv-loop2 μ-loop2
 loop-again c =
-    let a = c .before .before .before .before .before .before .before .before .before .args in entered-more (a .bytes .now) (a .table .now) _ _ _ (c .before .before .before .before .before .before .before .loop .inv) (c .before .before .before .before .before .before .loop-test .taken) (omega arith) _ (c .before .before .before .entry .ensures .0) _ (c .before .bytes .given) (c .before .before .put32 .ensures)
+    let put = c .before .before in
+    let test = put .before .before .before .before in
+    let l = test .before in
+    let st = l .before .before in
+    let lt : l .loop .i ≤ maxStates - 1 = omega (arith, test .loop-test .taken) in
+    let more = entered-more (st .args .bytes .now) (st .args .table .now) _ _ _ (l .loop .inv .1) (omega (arith, lt, st .pre)) (omega arith) _ in
+    (omega (arith, lt), more (put .before .entry .ensures .0) _ (c .before .bytes .given) (put .put32 .ensures))
 
-same-length : tie.Need-same-length Inv-loop μ-loop
-same-length c =
-    c .before .loop .inv .long
+loop2-holds : tie.Need-loop2-holds Inv-loop μ-loop Inv-loop2 μ-loop2
+loop2-holds c = (refl, λ b h. h)
 
-returns : tie.Need-returns Inv-loop μ-loop
+mul-put32-2 : tie.Need-mul-put32-2 Inv-loop μ-loop Inv-loop2 μ-loop2
+mul-put32-2 c = omega arith
+
+entry-requires-2 : tie.Need-entry-requires-2 Inv-loop μ-loop Inv-loop2 μ-loop2
+entry-requires-2 c κs = tt
+
+put32-requires-2 : tie.Need-put32-requires-2 Inv-loop μ-loop Inv-loop2 μ-loop2
+put32-requires-2 c κs =
+    let l = c .before .before .before .before in (omega (arith, l .loop2 .inv .0, l .before .before .loop .inv .1 .long), c .entry2 .ensures .1)
+
+add-i-2 : tie.Need-add-i-2 Inv-loop μ-loop Inv-loop2 μ-loop2
+add-i-2 c = search needs
+
+loop2-less : tie.Need-loop2-less Inv-loop μ-loop Inv-loop2 μ-loop2
+loop2-less c = omega arith
+
+loop2-again : tie.Need-loop2-again Inv-loop μ-loop Inv-loop2 μ-loop2
+loop2-again c =
+    let put = c .before .before in
+    let test = put .before .before .before .before in
+    let l = test .before in
+    let first = l .before .before in
+    let table = first .before .before .args .table .now in (
+      c .before .bytes2 .given ∙ l .loop2 .inv .0,
+      λ b e.
+          entered-more b table _ _ _ (l .loop2 .inv .1 b e) (test .loop2-test .taken) (omega (arith, first .loop .inv .1 .long, e .long)) _
+          (put .before .entry2 .ensures .0) _ (c .before .bytes2 .given) (put .put322 .ensures),
+    )
+
+same-length : tie.Need-same-length Inv-loop μ-loop Inv-loop2 μ-loop2
+same-length c = c .before .loop2 .inv .0 ∙ c .before .before .before .loop .inv .1 .long
+
+returns : tie.Need-returns Inv-loop μ-loop Inv-loop2 μ-loop2
 returns c =
-    let a = c .before .before .before .args in entered-all (a .bytes .now) (a .table .now) _ _ _ (c .before .loop .inv) (c .loop-test .left)
+    let first = c .before .before .before in
+    let a = first .before .before .args in
+    entered-all (a .bytes .now) (a .table .now) _ _ _ (c .before .loop2 .inv .1 _ (first .loop .inv .1)) (c .loop2-test .left)
 
 pub put-table-spec : {M : Type 1} → statement M
 put-table-spec =
@@ -53,6 +99,8 @@ put-table-spec =
     (tie.spec
     Inv-loop
     μ-loop
+    Inv-loop2
+    μ-loop2
     loop-holds
     mul-put32
     entry-requires
@@ -60,5 +108,12 @@ put-table-spec =
     add-i
     loop-less
     loop-again
+    loop2-holds
+    mul-put32-2
+    entry-requires-2
+    put32-requires-2
+    add-i-2
+    loop2-less
+    loop2-again
     same-length
     returns)

@@ -1,64 +1,64 @@
-use mathlib.Core.Path.{_∙_}
+-- The work of the call, and then the start's value and mark. A line of code put between two places lengthens the function that leads from one to the
+-- other by a `.before`.
+use mathlib.Core.Path.{_≡_, _∙_}
 use native.Mathlib.Omega.{arith}
 use borrow.Author.Needs.{needs}
+use Rattle.model.specs.Read.{problemOf}
+use Rattle.sheet.specs.Sheet.{Within}
 use Rattle.sheet.proofs.Laws.{within}
-use Rattle.ldfs.proofs.Solving.{start-is, head-room, settled, over, stopped}
+use Rattle.ldfs.proofs.Solving.{start-is, head-room, answers}
 use Rattle.ldfs.proofs.finish.Statement.{statement}
 use Rattle.ldfs.proofs.finish.Tie as tie
 
+-- from place to place
+abbrev start-of : tie.After-place → tie.Start
+start-of c = c .before .before .before .before .before
+
+abbrev place-of : tie.After-work → tie.After-place
+place-of c = c .before .before
+
+abbrev work-of : tie.After-solved-at → tie.After-work
+work-of c = c .before .before .before .before .before .before .before
+
+-- the start's number
+start-at : (c : tie.After-place) → c .place .result ≡ problemOf (start-of c .args .sheet .now) .start
+start-at c = c .place .ensures .0 ∙ c .before .get16 .ensures .0 ∙ start-is (start-of c .args .sheet .now)
+
+-- it is a state of what the work left
+left-at : (c : tie.After-work) → Within (c .work .last .0) (start-of (place-of c) .args .table .now) (place-of c .place .result)
+left-at c = let p = place-of c in within (c .work .ensures .sheet) _ (rw (start-at p) (start-of p .pre .0 .below))
+
 get16-requires : tie.Need-get16-requires
-get16-requires c κs =
-    omega (arith, head-room (c .before .before .before .pre .0))
+get16-requires c κs = omega (arith, head-room (c .before .before .before .pre .0))
 
 place-requires : tie.Need-place-requires
-place-requires c κs =
-    search needs
-
-slice-read-kind : tie.Need-slice-read-kind
-slice-read-kind c =
-    let h = head-room (c .before .before .before .before .before .before .pre .0) in search needs
+place-requires c κs = search needs
 
 work-requires : tie.Need-work-requires
 work-requires c κs =
-    let e = c .before .before .place .ensures .0 ∙ c .before .before .before .get16 .ensures .0 ∙ start-is (c .before .before .before .before .before .before .before .args .sheet .now) in (rw e (c .before .before .before .before .before .before .before .pre .0), (c .before .before .before .before .before .before .before .pre .1, e))
+    let p = c .before in let pre = start-of p .pre in (rw (start-at p) (pre .0), (pre .1, start-at p))
 
 value-at-requires : tie.Need-value-at-requires
-value-at-requires c κs =
-    let e = c .before .before .before .before .before .before .place .ensures .0 ∙ c .before .before .before .before .before .before .before .get16 .ensures .0 ∙ start-is (c .before .before .before .before .before .before .before .before .before .before .before .args .sheet .now) in
-    within (c .before .before .before .work .ensures _ (c .before .before .before .before .before .before .before .before .before .before .before .pre .0 .sheet) .sheet) _ (rw e (c .before .before .before .before .before .before .before .before .before .before .before .pre .0 .below))
+value-at-requires c κs = left-at (c .before .before .before)
 
 long-requires : tie.Need-long-requires
-long-requires c κs =
-    search needs
+long-requires c κs = search needs
 
 solved-at-requires : tie.Need-solved-at-requires
-solved-at-requires c κs =
-    let e = c .before .before .before .before .before .before .before .before .before .place .ensures .0 ∙ c .before .before .before .before .before .before .before .before .before .before .get16 .ensures .0 ∙ start-is (c .before .before .before .before .before .before .before .before .before .before .before .before .before .before .args .sheet .now) in
-    within (c .before .before .before .before .before .before .work .ensures _ (c .before .before .before .before .before .before .before .before .before .before .before .before .before .before .pre .0 .sheet) .sheet) _ (rw e (c .before .before .before .before .before .before .before .before .before .before .before .before .before .before .pre .0 .below))
+solved-at-requires c κs = left-at (c .before .before .before .before .before .before)
+
+outcome-requires : tie.Need-outcome-requires
+outcome-requires c κs = search needs
 
 same-length : tie.Need-same-length
-same-length c =
-    search needs
+same-length c = search needs
 
 returns : tie.Need-returns
 returns c =
-    settled (c .before .before .before .before .before .before .before .before .before .before .before .before .before .before .before .before .before .args .sheet .now) _ (c .before .before .before .before .before .before .before .before .before .work .ensures _ (c .before .before .before .before .before .before .before .before .before .before .before .before .before .before .before .before .before .pre .0 .sheet)) _ _ (c .before .before .before .before .before .before .before .before .before .before .before .before .place .ensures .0 ∙ c .before .before .before .before .before .before .before .before .before .before .before .before .before .get16 .ensures .0 ∙ start-is (c .before .before .before .before .before .before .before .before .before .before .before .before .before .before .before .before .before .args .sheet .now)) (c .before .before .before .before .long .ensures .0 ∙ c .before .before .before .before .before .value-at .ensures) _ (c .before .before .solved-at .ensures) (c .before .if1 .taken) (c .if2 .taken)
-
-same-length-2 : tie.Need-same-length-2
-same-length-2 c =
-    search needs
-
-returns-2 : tie.Need-returns-2
-returns-2 c =
-    over (c .before .before .before .before .before .before .before .before .before .before .before .before .before .before .before .before .before .args .sheet .now) _ (c .before .before .before .before .before .before .before .before .before .work .ensures _ (c .before .before .before .before .before .before .before .before .before .before .before .before .before .before .before .before .before .pre .0 .sheet)) _ _ (c .before .before .before .before .before .before .before .before .before .before .before .before .place .ensures .0 ∙ c .before .before .before .before .before .before .before .before .before .before .before .before .before .get16 .ensures .0 ∙ start-is (c .before .before .before .before .before .before .before .before .before .before .before .before .before .before .before .before .before .args .sheet .now)) (c .before .before .before .before .long .ensures .0 ∙ c .before .before .before .before .before .value-at .ensures) _ (c .before .before .solved-at .ensures) (c .before .if1 .taken) (c .if2 .left)
-
-same-length-3 : tie.Need-same-length-3
-same-length-3 c =
-    search needs
-
-returns-3 : tie.Need-returns-3
-returns-3 c =
-    stopped (c .before .before .before .before .before .before .before .before .before .before .before .before .before .before .before .before .args .sheet .now) _ (c .before .before .before .before .before .before .before .before .work .ensures _ (c .before .before .before .before .before .before .before .before .before .before .before .before .before .before .before .before .pre .0 .sheet)) _ _ (c .before .before .before .before .before .before .before .before .before .before .before .place .ensures .0 ∙ c .before .before .before .before .before .before .before .before .before .before .before .before .get16 .ensures .0 ∙ start-is (c .before .before .before .before .before .before .before .before .before .before .before .before .before .before .before .before .args .sheet .now)) (c .before .before .before .long .ensures .0 ∙ c .before .before .before .before .value-at .ensures) _ (c .before .solved-at .ensures) (c .if1 .left)
+    let m = c .before in
+    let w = work-of m in
+    let value = m .before .before .long .ensures .0 ∙ m .before .before .before .value-at .ensures in
+    answers (start-of (place-of w) .args .sheet .now) _ (w .work .ensures) (start-at (place-of w)) value (c .outcome .ensures _ (m .solved-at .ensures) value)
 
 pub finish-spec : {M : Type 1} → statement M
 finish-spec =
@@ -66,14 +66,10 @@ finish-spec =
     (tie.spec
     get16-requires
     place-requires
-    slice-read-kind
     work-requires
     value-at-requires
     long-requires
     solved-at-requires
+    outcome-requires
     same-length
-    returns
-    same-length-2
-    returns-2
-    same-length-3
-    returns-3)
+    returns)

@@ -49,7 +49,9 @@ same-length c =
 
 returns : tie.Need-returns Inv-loop μ-loop
 returns c =
-    let L = c .before .loop in cleared-all (c .before .before .args .table .now) (L .table) (c .before .before .args .from) (L .i) (c .loop-test .left) (L .inv .1) (L .inv .2) (L .inv .3)
+    let L = c .before .loop in
+    let a = c .before .before .args in
+    cleared-all (a .table .now) (L .table) (a .from) (L .i) (omega arith) (L .inv .1) (L .inv .2) (L .inv .3)
 
 pub clear-spec : {M : Type 1} → statement M
 clear-spec =

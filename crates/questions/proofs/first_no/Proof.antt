@@ -1,10 +1,55 @@
-use mathlib.Core.Path.{sym, _∙_}
+-- A line of code put before the stages' place lengthens one of the functions from place to place by a `.before`, and one behind it the
+-- answers there.
+use mathlib.Core.Path.{_≡_, sym, _∙_}
+use mathlib.Core.Bool.{true}
 use native.Mathlib.Omega.{arith}
 use borrow.Author.Needs.{needs}
+use Rattle.model.specs.Format.{Bytes, be16}
+use Rattle.model.specs.Questions.{question3}
 use Rattle.layout.proofs.Same.{head-says}
-use Rattle.questions.proofs.Asking.{too-short, too-long, no-3, no-4, then-states, states-are, zero-within, table-is, kind-is}
+use Rattle.questions.proofs.Asking.{Laid, too-short, too-long, no-3, no-4, then-states, states-are, zero-within, table-is}
 use Rattle.questions.proofs.first_no.Statement.{statement}
 use Rattle.questions.proofs.first_no.Tie as tie
+
+-- the call, from where the length is right; that place, from where the head is; that one, from the number of stages; and that, from
+-- the stages
+abbrev start-of : tie.Else2 → tie.Start
+start-of c = c .before .before .before .before
+
+abbrev sized-of : tie.Then3 → tie.Else2
+sized-of c = c .before .before
+
+abbrev headed-of : tie.After-place → tie.Then3
+headed-of c = c .before .before
+
+abbrev counted-of : tie.After-stages-in-place → tie.After-place
+counted-of c = c .before .before
+
+-- the head is in place, and n is its number of stages
+headed : (c : tie.Then3) → question3 (start-of (sized-of c) .args .sheet .now) ≡ true
+headed c = sym (c .before .head-in-place .ensures) ∙ c .if3 .taken
+
+counted : (c : tie.After-place) → c .place .result ≡ be16 (start-of (sized-of (headed-of c)) .args .sheet .now) 4
+counted c = c .place .ensures .0 ∙ c .before .get16 .ensures .0
+
+-- the stages are in place
+laid : (c : tie.Then4) → let n = counted-of (c .before .before .before) in
+    Laid (start-of (sized-of (headed-of n)) .args .sheet .now) (n .place .result)
+laid c =
+    let stages = c .before .before .before in
+    let n = counted-of stages in
+    let size = sized-of (headed-of n) in
+    record {
+      least = size .before .if1 .left;
+      most = size .if2 .left;
+      head = headed (headed-of n);
+      count = counted n;
+      good = sym (stages .stages-in-place .ensures .0) ∙ c .if4 .taken;
+    }
+
+-- the bytes are bytes
+bytes : (c : tie.Else2) → Bytes (start-of c .args .sheet .now)
+bytes c i = c .before .before .before .shared-slice-known .given i .fits
 
 returns : tie.Need-returns
 returns c =
@@ -15,55 +60,54 @@ returns-2 c =
     (too-long _ (c .before .if1 .left) (c .if2 .taken), λ z. absurd (omega arith))
 
 head-in-place-requires : tie.Need-head-in-place-requires
-head-in-place-requires c κs =
-    omega arith
+head-in-place-requires c κs = omega arith
 
 get16-requires : tie.Need-get16-requires
-get16-requires c κs =
-    omega arith
+get16-requires c κs = omega arith
 
 place-requires : tie.Need-place-requires
-place-requires c κs =
-    search needs
+place-requires c κs = search needs
 
 stages-in-place-requires : tie.Need-stages-in-place-requires
 stages-in-place-requires c κs =
-    let h = head-says (c .before .before .before .before .before .before .before .before .before .args .sheet .now) (sym (c .before .before .before .before .head-in-place .ensures) ∙ c .before .before .before .if3 .taken) in (omega (arith, c .before .place .ensures .0, c .before .before .get16 .ensures .0, h .5, c .before .before .before .before .before .before .before .before .before .pre), omega arith, c .before .before .before .before .before .if2 .left)
-
-shared-slice-read-states-no : tie.Need-shared-slice-read-states-no
-shared-slice-read-states-no c =
-    search needs
+    let n = c .before in
+    let size = sized-of (headed-of n) in
+    let h = head-says (start-of size .args .sheet .now) (headed (headed-of n)) in
+    (omega (arith, counted n, h .5, start-of size .pre), omega arith, size .if2 .left)
 
 states-no-requires : tie.Need-states-no-requires
 states-no-requires c κs =
-    let head = sym (c .before .before .before .before .before .before .before .before .before .before .head-in-place .ensures) ∙ c .before .before .before .before .before .before .before .before .before .if3 .taken in
-    let count = c .before .before .before .before .before .before .before .place .ensures .0 ∙ c .before .before .before .before .before .before .before .before .get16 .ensures .0 in
-    let body = sym (c .before .before .before .before .before .stages-in-place .ensures .0) ∙ c .before .before .if4 .taken in
-    (zero-within _ (c .before .before .before .before .before .before .before .before .before .before .before .before .if1 .left) (c .before .before .before .before .before .before .before .before .before .before .before .if2 .left) head _ count body (λ i. c .before .before .before .before .before .before .before .before .before .before .before .before .before .before .shared-slice-known .given i .fits) _ _ (c .before .before .before .before .before .stages-in-place .ensures .1 (c .before .before .if4 .taken)), (states-are _ (c .before .before .before .before .before .before .before .before .before .before .before .before .if1 .left) (c .before .before .before .before .before .before .before .before .before .before .before .if2 .left) head _ count body (λ i. c .before .before .before .before .before .before .before .before .before .before .before .before .before .before .shared-slice-known .given i .fits), kind-is _))
+    let yes = c .before in
+    let stages = yes .before .before .before in
+    let size = sized-of (headed-of (counted-of stages)) in
+    (zero-within (laid yes) (bytes size) _ _ (stages .stages-in-place .ensures .1 (yes .if4 .taken)), states-are (laid yes))
 
 same-length : tie.Need-same-length
-same-length c =
-    search needs
+same-length c = search needs
 
 returns-3 : tie.Need-returns-3
 returns-3 c =
-    let head = sym (c .before .before .before .before .before .before .before .before .before .before .before .head-in-place .ensures) ∙ c .before .before .before .before .before .before .before .before .before .before .if3 .taken in
-    let count = c .before .before .before .before .before .before .before .before .place .ensures .0 ∙ c .before .before .before .before .before .before .before .before .before .get16 .ensures .0 in
-    let body = sym (c .before .before .before .before .before .before .stages-in-place .ensures .0) ∙ c .before .before .before .if4 .taken in
-    (c .states-no .ensures ∙ sym (then-states _ (c .before .before .before .before .before .before .before .before .before .before .before .before .before .if1 .left) (c .before .before .before .before .before .before .before .before .before .before .before .before .if2 .left) head _ count body), λ _. table-is _ (c .before .before .before .before .before .before .before .before .before .before .before .before .before .if1 .left) (c .before .before .before .before .before .before .before .before .before .before .before .before .if2 .left) head _ count body (λ i. c .before .before .before .before .before .before .before .before .before .before .before .before .before .before .before .shared-slice-known .given i .fits) _ _ (c .before .before .before .before .before .before .stages-in-place .ensures .1 (c .before .before .before .if4 .taken)))
+    let yes = c .before .before in
+    let stages = yes .before .before .before in
+    let table = table-is (laid yes) _ _ (stages .stages-in-place .ensures .1 (yes .if4 .taken)) in
+    (c .states-no .ensures ∙ sym (then-states (laid yes)), λ _. table)
 
 same-length-2 : tie.Need-same-length-2
-same-length-2 c =
-    search needs
+same-length-2 c = search needs
 
 returns-4 : tie.Need-returns-4
 returns-4 c =
-    let head = sym (c .before .before .before .before .before .before .before .before .head-in-place .ensures) ∙ c .before .before .before .before .before .before .before .if3 .taken in
-    (no-4 _ (c .before .before .before .before .before .before .before .before .before .before .if1 .left) (c .before .before .before .before .before .before .before .before .before .if2 .left) head _ (c .before .before .before .before .before .place .ensures .0 ∙ c .before .before .before .before .before .before .get16 .ensures .0) (sym (c .before .before .before .stages-in-place .ensures .0) ∙ c .if4 .left), λ z. absurd (omega arith))
+    let stages = c .before .before .before in
+    let n = counted-of stages in
+    let size = sized-of (headed-of n) in
+    let bad = sym (stages .stages-in-place .ensures .0) ∙ c .if4 .left in
+    (no-4 _ (size .before .if1 .left) (size .if2 .left) (headed (headed-of n)) _ (counted n) bad, λ z. absurd (omega arith))
 
 returns-5 : tie.Need-returns-5
 returns-5 c =
-    (no-3 _ (c .before .before .before .if1 .left) (c .before .before .if2 .left) (sym (c .before .head-in-place .ensures) ∙ c .if3 .left), λ z. absurd (omega arith))
+    let size = c .before .before in
+    let no = sym (c .before .head-in-place .ensures) ∙ c .if3 .left in
+    (no-3 _ (size .before .if1 .left) (size .if2 .left) no, λ z. absurd (omega arith))
 
 pub first-no-spec : {M : Type 1} → statement M
 first-no-spec =
@@ -75,7 +119,6 @@ first-no-spec =
     get16-requires
     place-requires
     stages-in-place-requires
-    shared-slice-read-states-no
     states-no-requires
     same-length
     returns-3

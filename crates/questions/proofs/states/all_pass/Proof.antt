@@ -11,10 +11,10 @@ use Rattle.questions.proofs.states.all_pass.Statement.{statement}
 use Rattle.questions.proofs.states.all_pass.Tie as tie
 
 abbrev Inv-loop : tie.InvT-loop
-Inv-loop sheet table kind n question s₀ s = (s ≤ n) × (every s (passesAt question (problemOf sheet) (cellsOf sheet)) ≡ true)
+Inv-loop sheet table n question s₀ s = (s ≤ n) × (every s (passesAt question (problemOf sheet) (cellsOf sheet)) ≡ true)
 
 abbrev μ-loop : tie.MeasureT-loop
-μ-loop sheet table kind n question s₀ s = n - s
+μ-loop sheet table n question s₀ s = n - s
 
 loop-holds : tie.Need-loop-holds Inv-loop μ-loop
 unfolding every
@@ -23,7 +23,8 @@ loop-holds c =
 
 passes-requires : tie.Need-passes-requires Inv-loop μ-loop
 passes-requires c κs =
-    (record { sheet = c .before .before .before .before .pre .0 .1 .sheet; below = omega (arith, c .before .before .before .before .pre .1 .0 .0) }, (c .before .before .before .before .pre .1 .0, c .before .before .before .before .pre .1 .1))
+    let pre = c .before .before .before .before .pre in
+    (record { sheet = pre .0 .1 .sheet; below = omega (arith, pre .1 .0) }, pre .1)
 
 add-s : tie.Need-add-s Inv-loop μ-loop
 add-s c = search needs

@@ -1,78 +1,115 @@
-use Prim.Native.Nat.{_-_}
+-- The loop's invariant: action k, which there is, stands at `at`, and those before it are in order. A line of code put into the loop
+-- lengthens `loop-of` by a `.before`, or the answers behind the next action's place; one before the loop `start-of` or `else-of`.
+use Prim.Native.Nat.{_+_, _-_, _<_}
 use mathlib.Core.Path.{_≡_, refl, sym, _∙_}
-use mathlib.Core.Bool.{true}
+use mathlib.Core.Bool.{Bool, true, false}
 use native.Mathlib.Omega.{arith}
 use borrow.Author.Needs.{needs}
 use lib.ListN.{length}
 use Rattle.model.specs.Tests.{every}
 use Rattle.model.specs.Read.{problemOf}
+use Rattle.sheet.specs.Sheet.{Decision}
 use Rattle.sheet.proofs.Laws.{actionsAt}
-use Rattle.questions.proofs.Stepping.{Along, few, along-begins, along-stands, along-ends, along-fits, along-is, along-next, orderOf, every-more, all-stepped, stepped-out, order-of, terminal-from, decision-from, order-terminal}
+use Rattle.questions.proofs.Stepping.{Along, few, some, along-begins, along-stands, along-ends, along-fits, along-is, along-next}
+use Rattle.questions.proofs.Stepping.{every-more, all-stepped, stepped-out, terminal-from, decision-from}
+use Rattle.questions.proofs.Stepping.{orderOf, order-of, order-terminal}
 use Rattle.questions.proofs.states.in_order.Statement.{statement}
 use Rattle.questions.proofs.states.in_order.Tie as tie
 
 abbrev Inv-loop : tie.InvT-loop
-Inv-loop sheet table state n at₀ k₀ at k = Along sheet state k at × (every k (orderOf (problemOf sheet) n state) ≡ true)
+Inv-loop sheet table state n at₀ k₀ at k =
+    Along sheet state k at × (k < length (actionsAt (problemOf sheet) state)) × (every k (orderOf (problemOf sheet) n state) ≡ true)
 
 abbrev μ-loop : tie.MeasureT-loop
 μ-loop sheet table state n at₀ k₀ at k = length (actionsAt (problemOf sheet) state) - k
+
+-- the call, from where the state is no terminal; that place, from the loop; the loop, from the place of the next action
+abbrev start-of : tie.Else1 Inv-loop μ-loop → tie.Start Inv-loop μ-loop
+start-of c = c .before .before .before .before
+
+abbrev else-of : tie.At-loop Inv-loop μ-loop → tie.Else1 Inv-loop μ-loop
+else-of c = c .before .before
+
+abbrev loop-of : tie.After-next-action Inv-loop μ-loop → tie.At-loop Inv-loop μ-loop
+loop-of c = c .before .before .before
+
+-- the state is a decision
+decided : (c : tie.Else1 Inv-loop μ-loop) → let a = start-of c .args in Decision (a .sheet .now) (a .table .now) (a .state)
+decided c = decision-from (start-of c .pre) _ (c .before .is-terminal .ensures) (c .if1 .left)
+
+-- the test of action k
+tested : (c : tie.After-ascending-at Inv-loop μ-loop) (b : Bool) → c .ascending-at .result ≡ b →
+    let a = start-of (else-of (c .before)) .args in
+    orderOf (problemOf (a .sheet .now)) (a .n) (a .state) (c .before .loop .k) ≡ b
+tested c b e =
+    let (along, lk, _) = c .before .loop .inv in
+    rw (along-is (decided (else-of (c .before))) along lk) at (sym (c .ascending-at .ensures) ∙ e)
+
+-- the next action stands where the code goes on, and those before it are in order
+turned : (c : tie.After-next-action Inv-loop μ-loop) → let L = loop-of c in let a = start-of (else-of L) .args in
+    Along (a .sheet .now) (a .state) (L .loop .k + 1) (c .next-action .result) ×
+    (every (L .loop .k + 1) (orderOf (problemOf (a .sheet .now)) (a .n) (a .state)) ≡ true)
+turned c =
+    let L = loop-of c in
+    let (along, lk, passed) = L .loop .inv in (
+      along-next (decided (else-of L)) along lk _ (c .next-action .ensures .0),
+      every-more (L .loop .k) _ passed (tested (c .before .before) true (c .before .if2 .taken)),
+    )
 
 is-terminal-requires : tie.Need-is-terminal-requires Inv-loop μ-loop
 is-terminal-requires c κs = search needs
 
 returns : tie.Need-returns Inv-loop μ-loop
 returns c =
-    order-terminal (terminal-from (c .before .before .before .before .pre) _ (c .before .is-terminal .ensures) (c .if1 .taken)) _
+    let st = c .before .before .before .before in
+    order-terminal (terminal-from (st .pre) _ (c .before .is-terminal .ensures) (c .if1 .taken)) _
 
 first-action-requires : tie.Need-first-action-requires Inv-loop μ-loop
-first-action-requires c κs =
-    decision-from (c .before .before .before .before .pre) _ (c .before .is-terminal .ensures) (c .if1 .left)
+first-action-requires c κs = decided c
 
 loop-holds : tie.Need-loop-holds Inv-loop μ-loop
 unfolding every
 loop-holds c =
-    (along-begins (decision-from (c .before .before .before .before .before .pre) _ (c .before .before .is-terminal .ensures) (c .before .if1 .left)) _ (c .first-action .ensures .0), refl)
+    let d = decided (c .before) in (along-begins d _ (c .first-action .ensures .0), some d, refl)
+
+ascending-at-requires : tie.Need-ascending-at-requires Inv-loop μ-loop
+ascending-at-requires c κs =
+    let (along, lk, _) = c .loop .inv in along-fits (decided (else-of c)) along lk
+
+next-action-requires : tie.Need-next-action-requires Inv-loop μ-loop
+next-action-requires c κs =
+    let L = c .before .before in
+    let (along, lk, _) = L .loop .inv in
+    along-fits (decided (else-of L)) along lk
+
+add-k : tie.Need-add-k Inv-loop μ-loop
+add-k c =
+    let L = loop-of c in omega (arith, L .loop .inv .1, few (decided (else-of L)))
+
+returns-2 : tie.Need-returns-2 Inv-loop μ-loop
+returns-2 c =
+    let L = c .before .before in
+    stepped-out _ _ _ (order-of (decided (else-of L)) _) (L .loop .k) (L .loop .inv .1) (tested (c .before) false (c .if2 .left))
 
 action-here-requires : tie.Need-action-here-requires Inv-loop μ-loop
 action-here-requires c κs = search needs
 
-ascending-at-requires : tie.Need-ascending-at-requires Inv-loop μ-loop
-ascending-at-requires c κs =
-    let d = decision-from (c .before .before .before .before .before .before .before .before .pre) _ (c .before .before .before .before .before .is-terminal .ensures) (c .before .before .before .before .if1 .left) in
-    along-fits d (c .before .before .loop .inv .0) (along-stands d (c .before .before .loop .inv .0) _ (c .before .action-here .ensures) (c .if2 .taken))
-
-next-action-requires : tie.Need-next-action-requires Inv-loop μ-loop
-next-action-requires c κs =
-    let d = decision-from (c .before .before .before .before .before .before .before .before .before .before .pre) _ (c .before .before .before .before .before .before .before .is-terminal .ensures) (c .before .before .before .before .before .before .if1 .left) in
-    along-fits d (c .before .before .before .before .loop .inv .0) (along-stands d (c .before .before .before .before .loop .inv .0) _ (c .before .before .before .action-here .ensures) (c .before .before .if2 .taken))
-
-add-k : tie.Need-add-k Inv-loop μ-loop
-add-k c =
-    omega (arith, c .before .before .before .before .before .loop .inv .0 .upto, few (decision-from (c .before .before .before .before .before .before .before .before .before .before .before .pre) _ (c .before .before .before .before .before .before .before .before .is-terminal .ensures) (c .before .before .before .before .before .before .before .if1 .left)))
-
 loop-less : tie.Need-loop-less Inv-loop μ-loop
-loop-less c =
-    let d = decision-from (c .before .before .before .before .before .before .before .before .before .before .before .pre) _ (c .before .before .before .before .before .before .before .before .is-terminal .ensures) (c .before .before .before .before .before .before .before .if1 .left) in
-    let lk = along-stands d (c .before .before .before .before .before .loop .inv .0) _ (c .before .before .before .before .action-here .ensures) (c .before .before .before .if2 .taken) in omega arith
+loop-less c = search needs
 
 loop-again : tie.Need-loop-again Inv-loop μ-loop
 loop-again c =
-    let d = decision-from (c .before .before .before .before .before .before .before .before .before .before .before .pre) _ (c .before .before .before .before .before .before .before .before .is-terminal .ensures) (c .before .before .before .before .before .before .before .if1 .left) in
-    let lk = along-stands d (c .before .before .before .before .before .loop .inv .0) _ (c .before .before .before .before .action-here .ensures) (c .before .before .before .if2 .taken) in (
-      along-next d (c .before .before .before .before .before .loop .inv .0) lk _ (c .next-action .ensures .0),
-      every-more (c .before .before .before .before .before .loop .k) _ (c .before .before .before .before .before .loop .inv .1) (rw (along-is d (c .before .before .before .before .before .loop .inv .0) lk) at (sym (c .before .before .ascending-at .ensures) ∙ c .before .if3 .taken)),
-    )
-
-returns-2 : tie.Need-returns-2 Inv-loop μ-loop
-returns-2 c =
-    let d = decision-from (c .before .before .before .before .before .before .before .before .before .before .pre) _ (c .before .before .before .before .before .before .before .is-terminal .ensures) (c .before .before .before .before .before .before .if1 .left) in
-    let lk = along-stands d (c .before .before .before .before .loop .inv .0) _ (c .before .before .before .action-here .ensures) (c .before .before .if2 .taken) in
-    stepped-out _ _ _ (order-of d _) (c .before .before .before .before .loop .k) lk (rw (along-is d (c .before .before .before .before .loop .inv .0) lk) at (sym (c .before .ascending-at .ensures) ∙ c .if3 .left))
+    let turn = c .before .before in
+    let (along, passed) = turned turn in
+    (along, along-stands (decided (else-of (loop-of turn))) along _ (c .before .action-here .ensures) (c .if3 .taken), passed)
 
 returns-3 : tie.Need-returns-3 Inv-loop μ-loop
 returns-3 c =
-    let d = decision-from (c .before .before .before .before .before .before .before .before .pre) _ (c .before .before .before .before .before .is-terminal .ensures) (c .before .before .before .before .if1 .left) in
-    all-stepped _ _ _ (order-of d _) (c .before .before .loop .k) (c .before .before .loop .inv .1) (c .before .before .loop .inv .0 .upto) (along-ends d (c .before .before .loop .inv .0) _ (c .before .action-here .ensures) (c .if2 .left))
+    let turn = c .before .before in
+    let (along, passed) = turned turn in
+    let d = decided (else-of (loop-of turn)) in
+    let ends = along-ends d along _ (c .before .action-here .ensures) (c .if3 .left) in
+    all-stepped _ _ _ (order-of d _) (loop-of turn .loop .k + 1) passed (along .upto) ends
 
 pub in-order-spec : {M : Type 1} → statement M
 in-order-spec =
@@ -84,11 +121,11 @@ in-order-spec =
     returns
     first-action-requires
     loop-holds
-    action-here-requires
     ascending-at-requires
     next-action-requires
     add-k
+    returns-2
+    action-here-requires
     loop-less
     loop-again
-    returns-2
     returns-3)

@@ -22,7 +22,7 @@ enum-told-3 c = search needs
 
 value-under-requires : tie.Need-value-under-requires
 value-under-requires c κs =
-    (c .before .before .before .before .pre .0, bounds-ordered _ _ _ (c .before .before .before .before .pre .1 .1) (c .before .before .before .before .pre .1 .0 .1) (c .enum-told3 .given .1))
+    let pre = c .before .before .before .before .pre in (pre .0, bounds-ordered _ _ _ (pre .1 .1) (c .enum-told3 .given .1))
 
 enum-told-4 : tie.Need-enum-told-4
 enum-told-4 c = search needs
@@ -33,7 +33,9 @@ solved-at-requires c κs = search needs
 mark-earned-requires : tie.Need-mark-earned-requires
 mark-earned-requires c κs =
     let e = c .before .before .enum-told4 .given .1 in
-    (c .before .before .before .before .before .before .pre .0, (marks-ordered _ _ _ (c .before .before .before .before .before .before .pre .1 .1) (c .before .before .before .before .before .before .pre .1 .0 .1) e, marks-chosen _ _ _ (c .before .before .before .before .before .before .pre .1 .1) e _ (c .before .before .before .before .before .before .pre .0 .below) (sym (c .before .solved-at .ensures) ∙ c .if1 .taken)))
+    let pre = c .before .before .before .before .before .before .pre in
+    let chosen = marks-chosen _ _ _ (pre .1 .1) e _ (pre .0 .below) (sym (c .before .solved-at .ensures) ∙ c .if1 .taken) in
+    (pre .0, (marks-ordered _ _ _ (pre .1 .1) e, chosen))
 
 returns : tie.Need-returns
 unfolding passesAt
@@ -43,7 +45,7 @@ returns c =
 returns-2 : tie.Need-returns-2
 unfolding passesAt
 returns-2 c =
-    rw (c .before .enum-told2 .given .1) (rw (c .before .before .before .before .before .pre .1 .0 .0) at (c .in-order .ensures))
+    rw (c .before .enum-told2 .given .1) (rw (c .before .before .before .before .before .pre .1 .0) at (c .in-order .ensures))
 
 returns-3 : tie.Need-returns-3
 unfolding passesAt

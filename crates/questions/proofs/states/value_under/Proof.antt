@@ -1,4 +1,6 @@
-use Prim.Native.Nat.{_-_}
+-- The loop's invariant: action k stands at `at`, and those before it pass. A line of code put into the loop lengthens `loop-of` by a
+-- `.before`, or the answers behind the price; one before the loop lengthens `start-of` or `else-of`.
+use Prim.Native.Nat.{_-_, _<_}
 use mathlib.Core.Path.{_≡_, refl}
 use mathlib.Core.Bool.{true}
 use native.Mathlib.Omega.{arith}
@@ -6,16 +8,44 @@ use borrow.Author.Needs.{needs}
 use lib.ListN.{length}
 use Rattle.model.specs.Tests.{every}
 use Rattle.model.specs.Read.{problemOf, cellsOf}
+use Rattle.sheet.specs.Sheet.{Terminal, Decision}
 use Rattle.sheet.proofs.Laws.{actionsAt}
-use Rattle.questions.proofs.Stepping.{Along, few, along-begins, along-stands, along-ends, along-fits, along-next, along-priced, priceOver, every-more, all-stepped, stepped-out, under-of, terminal-from, decision-from, under-terminal, price-over, price-under}
+use Rattle.questions.proofs.Stepping.{Along, few, along-begins, along-stands, along-ends, along-fits, along-next, along-priced}
+use Rattle.questions.proofs.Stepping.{every-more, all-stepped, stepped-out, under-of, terminal-from, decision-from}
+use Rattle.questions.proofs.Stepping.{under-terminal, priceOver, price-over, price-under}
 use Rattle.questions.proofs.states.value_under.Statement.{statement}
 use Rattle.questions.proofs.states.value_under.Tie as tie
 
 abbrev Inv-loop : tie.InvT-loop
-Inv-loop sheet table kind state value at₀ k₀ at k = Along sheet state k at × (every k (priceOver (problemOf sheet) (cellsOf sheet) state) ≡ true)
+Inv-loop sheet table state value at₀ k₀ at k =
+    Along sheet state k at × (every k (priceOver (problemOf sheet) (cellsOf sheet) state) ≡ true)
 
 abbrev μ-loop : tie.MeasureT-loop
-μ-loop sheet table kind state value at₀ k₀ at k = length (actionsAt (problemOf sheet) state) - k
+μ-loop sheet table state value at₀ k₀ at k = length (actionsAt (problemOf sheet) state) - k
+
+-- the call, from where the value has been read; where the state is no terminal, from the loop; the loop, from an action that stands there
+abbrev start-of : tie.After-value-at Inv-loop μ-loop → tie.Start Inv-loop μ-loop
+start-of c = c .before .before .before
+
+abbrev else-of : tie.At-loop Inv-loop μ-loop → tie.Else1 Inv-loop μ-loop
+else-of c = c .before .before
+
+abbrev loop-of : tie.Then2 Inv-loop μ-loop → tie.At-loop Inv-loop μ-loop
+loop-of c = c .before .before
+
+-- the state is a terminal, or a decision
+ended : (c : tie.Then1 Inv-loop μ-loop) → let a = start-of (c .before .before) .args in
+    Terminal (a .sheet .now) (a .table .now) (a .state)
+ended c = terminal-from (start-of (c .before .before) .pre .0) _ (c .before .is-terminal .ensures) (c .if1 .taken)
+
+decided : (c : tie.Else1 Inv-loop μ-loop) → let a = start-of (c .before .before) .args in
+    Decision (a .sheet .now) (a .table .now) (a .state)
+decided c = decision-from (start-of (c .before .before) .pre .0) _ (c .before .is-terminal .ensures) (c .if1 .left)
+
+-- action k is one of its actions
+stands : (c : tie.Then2 Inv-loop μ-loop) → let L = loop-of c in let a = start-of (else-of L .before .before) .args in
+    L .loop .k < length (actionsAt (problemOf (a .sheet .now)) (a .state))
+stands c = along-stands (decided (else-of (loop-of c))) (loop-of c .loop .inv .0) _ (c .before .action-here .ensures) (c .if2 .taken)
 
 value-at-requires : tie.Need-value-at-requires Inv-loop μ-loop
 value-at-requires c κs = search needs
@@ -24,62 +54,64 @@ is-terminal-requires : tie.Need-is-terminal-requires Inv-loop μ-loop
 is-terminal-requires c κs = search needs
 
 terminal-cost-requires : tie.Need-terminal-cost-requires Inv-loop μ-loop
-terminal-cost-requires c κs =
-    terminal-from (c .before .before .before .before .before .pre .0) _ (c .before .is-terminal .ensures) (c .if1 .taken)
+terminal-cost-requires c κs = ended c
 
 returns : tie.Need-returns Inv-loop μ-loop
 returns c =
-    rw (c .before .before .before .value-at .ensures, c .terminal-cost .ensures) (under-terminal (terminal-from (c .before .before .before .before .before .before .pre .0) _ (c .before .before .is-terminal .ensures) (c .before .if1 .taken)))
+    rw (c .before .before .before .value-at .ensures, c .terminal-cost .ensures) (under-terminal (ended (c .before)))
 
 first-action-requires : tie.Need-first-action-requires Inv-loop μ-loop
-first-action-requires c κs =
-    decision-from (c .before .before .before .before .before .pre .0) _ (c .before .is-terminal .ensures) (c .if1 .left)
+first-action-requires c κs = decided c
 
 loop-holds : tie.Need-loop-holds Inv-loop μ-loop
 unfolding every
-loop-holds c =
-    (along-begins (decision-from (c .before .before .before .before .before .before .pre .0) _ (c .before .before .is-terminal .ensures) (c .before .if1 .left)) _ (c .first-action .ensures .0), refl)
+loop-holds c = (along-begins (decided (c .before)) _ (c .first-action .ensures .0), refl)
 
 action-here-requires : tie.Need-action-here-requires Inv-loop μ-loop
 action-here-requires c κs = search needs
 
 price-requires : tie.Need-price-requires Inv-loop μ-loop
 price-requires c κs =
-    let d = decision-from (c .before .before .before .before .before .before .before .before .before .pre .0) _ (c .before .before .before .before .before .is-terminal .ensures) (c .before .before .before .before .if1 .left) in
-    along-priced d (c .before .before .loop .inv .0) (along-stands d (c .before .before .loop .inv .0) _ (c .before .action-here .ensures) (c .if2 .taken)) _ (c .before .before .before .before .before .before .before .before .before .pre .1)
+    let L = loop-of c in
+    along-priced (decided (else-of L)) (L .loop .inv .0) (stands c) (start-of (else-of L .before .before) .pre .1)
 
 returns-2 : tie.Need-returns-2 Inv-loop μ-loop
 returns-2 c =
-    let d = decision-from (c .before .before .before .before .before .before .before .before .before .before .before .before .pre .0) _ (c .before .before .before .before .before .before .before .before .is-terminal .ensures) (c .before .before .before .before .before .before .before .if1 .left) in
-    let lk = along-stands d (c .before .before .before .before .before .loop .inv .0) _ (c .before .before .before .before .action-here .ensures) (c .before .before .before .if2 .taken) in
-    stepped-out _ _ _ (under-of d) (c .before .before .before .before .before .loop .k) lk (price-over d (c .before .before .before .before .before .loop .inv .0) lk (c .before .before .before .before .before .before .before .before .before .before .before .before .pre .1) (c .before .before .before .before .before .before .before .before .before .value-at .ensures) (c .before .before .price .ensures .0) (c .if3 .taken))
+    let here = c .before .before .before in
+    let L = loop-of here in
+    let d = decided (else-of L) in
+    let value = else-of L .before .before .value-at .ensures in
+    let over = price-over d (L .loop .inv .0) (stands here) value (c .before .before .price .ensures .0) (c .if3 .taken) in
+    stepped-out _ _ _ (under-of d) (L .loop .k) (stands here) over
 
 next-action-requires : tie.Need-next-action-requires Inv-loop μ-loop
 next-action-requires c κs =
-    let d = decision-from (c .before .before .before .before .before .before .before .before .before .before .before .before .pre .0) _ (c .before .before .before .before .before .before .before .before .is-terminal .ensures) (c .before .before .before .before .before .before .before .if1 .left) in
-    along-fits d (c .before .before .before .before .before .loop .inv .0) (along-stands d (c .before .before .before .before .before .loop .inv .0) _ (c .before .before .before .before .action-here .ensures) (c .before .before .before .if2 .taken))
+    let here = c .before .before .before in
+    along-fits (decided (else-of (loop-of here))) (loop-of here .loop .inv .0) (stands here)
 
 add-k : tie.Need-add-k Inv-loop μ-loop
 add-k c =
-    omega (arith, c .before .before .before .before .before .before .loop .inv .0 .upto, few (decision-from (c .before .before .before .before .before .before .before .before .before .before .before .before .before .pre .0) _ (c .before .before .before .before .before .before .before .before .before .is-terminal .ensures) (c .before .before .before .before .before .before .before .before .if1 .left)))
+    let L = loop-of (c .before .before .before .before) in omega (arith, L .loop .inv .0 .upto, few (decided (else-of L)))
 
 loop-less : tie.Need-loop-less Inv-loop μ-loop
 loop-less c =
-    let d = decision-from (c .before .before .before .before .before .before .before .before .before .before .before .before .before .pre .0) _ (c .before .before .before .before .before .before .before .before .before .is-terminal .ensures) (c .before .before .before .before .before .before .before .before .if1 .left) in
-    let lk = along-stands d (c .before .before .before .before .before .before .loop .inv .0) _ (c .before .before .before .before .before .action-here .ensures) (c .before .before .before .before .if2 .taken) in omega arith
+    let here = c .before .before .before .before in omega (arith, stands here)
 
 loop-again : tie.Need-loop-again Inv-loop μ-loop
 loop-again c =
-    let d = decision-from (c .before .before .before .before .before .before .before .before .before .before .before .before .before .pre .0) _ (c .before .before .before .before .before .before .before .before .before .is-terminal .ensures) (c .before .before .before .before .before .before .before .before .if1 .left) in
-    let lk = along-stands d (c .before .before .before .before .before .before .loop .inv .0) _ (c .before .before .before .before .before .action-here .ensures) (c .before .before .before .before .if2 .taken) in (
-      along-next d (c .before .before .before .before .before .before .loop .inv .0) lk _ (c .next-action .ensures .0),
-      every-more (c .before .before .before .before .before .before .loop .k) _ (c .before .before .before .before .before .before .loop .inv .1) (price-under d (c .before .before .before .before .before .before .loop .inv .0) lk (c .before .before .before .before .before .before .before .before .before .before .before .before .before .pre .1) (c .before .before .before .before .before .before .before .before .before .before .value-at .ensures) (c .before .before .before .price .ensures .0) (c .before .if3 .left)),
-    )
+    let here = c .before .before .before .before in
+    let L = loop-of here in
+    let d = decided (else-of L) in
+    let value = else-of L .before .before .value-at .ensures in
+    let under = price-under d (L .loop .inv .0) (stands here) value (c .before .before .before .price .ensures .0) (c .before .if3 .left) in
+    (along-next d (L .loop .inv .0) (stands here) _ (c .next-action .ensures .0), every-more (L .loop .k) _ (L .loop .inv .1) under)
 
 returns-3 : tie.Need-returns-3 Inv-loop μ-loop
 returns-3 c =
-    let d = decision-from (c .before .before .before .before .before .before .before .before .before .pre .0) _ (c .before .before .before .before .before .is-terminal .ensures) (c .before .before .before .before .if1 .left) in
-    all-stepped _ _ _ (under-of d) (c .before .before .loop .k) (c .before .before .loop .inv .1) (c .before .before .loop .inv .0 .upto) (along-ends d (c .before .before .loop .inv .0) _ (c .before .action-here .ensures) (c .if2 .left))
+    let L = c .before .before in
+    let d = decided (else-of L) in
+    let ends = along-ends d (L .loop .inv .0) _ (c .before .action-here .ensures) (c .if2 .left) in
+    all-stepped _ _ _ (under-of d) (L .loop .k) (L .loop .inv .1) (L .loop .inv .0 .upto) ends
 
 pub value-under-spec : {M : Type 1} → statement M
 value-under-spec =

@@ -1,95 +1,132 @@
--- The loop's invariant: the total so far, joined with the values of the successors left, is all of them joined.
-use Prim.Native.Nat.{ℕ, _*_, _-_, _<_, _≤_}
+-- The loop's invariant: the largest and the sum so far, joined with the values of the successors left, are those of all of them. A line of code put
+-- into the loop lengthens `loop-of` by a `.before`, one before the loop lengthens `start-of`, and one behind it the two answers at the end.
+use Prim.Native.Nat.{ℕ, _+_, _*_, _-_, _<_, _≤_}
 use mathlib.Core.Path.{_≡_, _∙_}
 use mathlib.Core.List.{List}
 use native.Mathlib.Omega.{arith}
-use native.Mathlib.Numerals.{add-one}
 use borrow.Author.Needs.{needs}
 use lib.ListN.{length, drop}
 use Rattle.model.specs.Problem.{valueOf}
-use Rattle.model.specs.Read.{kindOf, cellsOf, actionRead}
+use Rattle.model.specs.Read.{problemOf, cellsOf, actionRead}
 use Rattle.model.specs.QValue.{joined}
-use Rattle.sheet.proofs.Joining.{joinedFrom, joined-begin, joined-turn, joined-end}
+use Rattle.sheet.specs.Sheet.{ofKind}
+use Rattle.sheet.proofs.Joining.{of-kind-fits, Sums, sums-none, sums-more, sums-all}
+use Rattle.sheet.proofs.Laws.{action-inside, some-successor, head-room}
 use Rattle.sheet.proofs.pricing.price.Statement.{statement}
 use Rattle.sheet.proofs.pricing.price.Tie as tie
 
 abbrev successorsAt : List ℕ → ℕ → List ℕ
 successorsAt s o = actionRead (drop o s) .successors
 
-abbrev joinedAt : ℕ → List ℕ → ℕ → ℕ
-joinedAt kind s o = joined (kindOf kind) (valueOf (cellsOf s)) (successorsAt s o)
+abbrev SumsAt : List ℕ → ℕ → ℕ → ℕ → ℕ → Type 0
+SumsAt s o = Sums (valueOf (cellsOf s)) (successorsAt s o)
 
 abbrev Inv-loop : tie.InvT-loop
-Inv-loop sheet table kind at n cost total₀ j₀ total j =
-    (j ≤ n) × (total ≤ 4294967296 * j) × (joinedAt kind sheet at ≡ joinedFrom (kindOf kind) (valueOf (cellsOf sheet)) (successorsAt sheet at) j total)
+Inv-loop sheet table at end total₀ most₀ j₀ total most j = (j < length (successorsAt sheet at)) × SumsAt sheet at total most j
 
 abbrev μ-loop : tie.MeasureT-loop
-μ-loop sheet table kind at n cost total₀ j₀ total j = n - j
+μ-loop sheet table at end total₀ most₀ j₀ total most j = length (successorsAt sheet at) - j
 
-successor-count-requires : tie.Need-successor-count-requires Inv-loop μ-loop
-successor-count-requires c κs = c .before .before .pre .fits
+-- the loop, from the end of a turn, and the call, from the loop
+abbrev loop-of : tie.After-larger Inv-loop μ-loop → tie.At-loop Inv-loop μ-loop
+loop-of c = c .before .before .before .before
 
-action-cost-requires : tie.Need-action-cost-requires Inv-loop μ-loop
-action-cost-requires c κs = c .before .before .before .pre .fits
+abbrev start-of : tie.At-loop Inv-loop μ-loop → tie.Start Inv-loop μ-loop
+start-of c = c .before .before .before .before
+
+-- an action has at most sixteen successors, and they are inside
+inside : (c : tie.Start Inv-loop μ-loop) → (length (successorsAt (c .args .sheet .now) (c .args .at)) ≤ 16) ×
+    (c .args .at + 7 + 2 * length (successorsAt (c .args .sheet .now) (c .args .at)) ≤ length (c .args .sheet .now))
+inside c = action-inside (c .args .sheet .now) (c .args .at) (c .pre .fits)
+
+-- a turn adds the value of one successor
+turned : (c : tie.After-larger Inv-loop μ-loop) → let st = start-of (loop-of c) in
+    SumsAt (st .args .sheet .now) (st .args .at) (loop-of c .loop .total + c .before .long .result) (c .larger .result) (loop-of c .loop .j + 1)
+turned c =
+    let value = c .before .long .ensures .0 ∙ c .before .before .value-at .ensures in
+    let (more, sums) = loop-of c .loop .inv in
+    sums-more sums more (c .before .before .before .successor .ensures .0) value (c .before .long .ensures .1) (c .larger .ensures)
+
+next-action-requires : tie.Need-next-action-requires Inv-loop μ-loop
+next-action-requires c κs = search needs
+
+loop-holds : tie.Need-loop-holds Inv-loop μ-loop
+loop-holds c =
+    let st = c .before .before .before in (some-successor (st .args .sheet .now) (st .args .at) (st .pre .fits), sums-none)
+
+successor-requires : tie.Need-successor-requires Inv-loop μ-loop
+successor-requires c κs = search needs
+
+add-j : tie.Need-add-j Inv-loop μ-loop
+add-j c =
+    let at-loop = c .before in omega (arith, at-loop .loop .inv .0, inside (start-of at-loop))
+
+value-at-requires : tie.Need-value-at-requires Inv-loop μ-loop
+value-at-requires c κs =
+    let at-loop = c .before in
+    let pre = start-of at-loop .pre in
+    record { sheet = pre .sheet; below = rw (c .successor .ensures .0) (pre .below (at-loop .loop .j) (at-loop .loop .inv .0)) }
 
 long-requires : tie.Need-long-requires Inv-loop μ-loop
 long-requires c κs = search needs
 
-loop-holds : tie.Need-loop-holds Inv-loop μ-loop
-loop-holds c = (omega arith, omega arith, joined-begin _ _ _)
+add-total : tie.Need-add-total Inv-loop μ-loop
+add-total c =
+    let at-loop = c .before .before .before in
+    omega (arith, c .long .ensures .1, at-loop .loop .inv .1 .summed, at-loop .loop .inv .0, inside (start-of at-loop))
 
-successor-requires : tie.Need-successor-requires Inv-loop μ-loop
-successor-requires c κs =
-    (c .before .before .before .before .before .before .before .pre .fits, omega (arith, c .before .before .before .before .successor-count .ensures .0))
+larger-requires : tie.Need-larger-requires Inv-loop μ-loop
+larger-requires c κs = search needs
 
-add-j : tie.Need-add-j Inv-loop μ-loop
-add-j c = search needs
+add-if1 : tie.Need-add-if1 Inv-loop μ-loop
+add-if1 c = search needs
 
-value-at-requires : tie.Need-value-at-requires Inv-loop μ-loop
-value-at-requires c κs =
-    let pre = c .before .before .before .before .before .before .before .before .pre in
-    let count = c .before .before .before .before .before .successor-count .ensures .0 in
-    record { sheet = pre .sheet; below = rw (c .successor .ensures .0) (pre .below (c .before .before .loop .j) (omega (arith, count))) }
+mul-if1 : tie.Need-mul-if1 Inv-loop μ-loop
+mul-if1 c = search needs
 
-long-requires-2 : tie.Need-long-requires-2 Inv-loop μ-loop
-long-requires-2 c κs = search needs
-
-join-two-requires : tie.Need-join-two-requires Inv-loop μ-loop
-join-two-requires c κs =
-    let few = c .before .before .before .before .before .before .before .successor-count .ensures .1 in
-    omega (arith, few, c .long2 .ensures .1, c .before .before .before .before .loop .inv .1)
+add-if1-2 : tie.Need-add-if1-2 Inv-loop μ-loop
+add-if1-2 c = search needs
 
 loop-less : tie.Need-loop-less Inv-loop μ-loop
 loop-less c = search needs
 
 loop-again : tie.Need-loop-again Inv-loop μ-loop
-loop-again c =
-    let a = c .before .before .before .before .before .before .before .before .before .before .before .args in
-    let loop = c .before .before .before .before .before .loop in
-    let count = c .before .before .before .before .before .before .before .before .successor-count .ensures .0 in
-    let lt : loop .j < length (successorsAt (a .sheet .now) (a .at)) = omega (arith, count) in
-    let got = c .before .long2 .ensures .0 ∙ c .before .before .value-at .ensures in (
-      omega arith,
-      omega (arith, c .join-two .ensures .1, c .before .long2 .ensures .1, loop .inv .1),
-      rw (add-one, c .join-two .ensures .0, got, c .before .before .before .successor .ensures .0) (loop .inv .2 ∙ joined-turn _ _ _ (loop .j) (loop .total) lt),
-    )
+loop-again c = (omega (arith, c .if1 .left, loop-of (c .before) .before .next-action .ensures .0), turned (c .before))
+
+action-cost-requires : tie.Need-action-cost-requires Inv-loop μ-loop
+action-cost-requires c κs = search needs
+
+long-requires-2 : tie.Need-long-requires-2 Inv-loop μ-loop
+long-requires-2 c κs = search needs
+
+of-kind-requires : tie.Need-of-kind-requires Inv-loop μ-loop
+of-kind-requires c κs =
+    let turn = c .before .before .before in head-room (start-of (loop-of turn) .pre .sheet)
+
+-- what is added to the cost: at most sixteen values
+sum-fits : (c : tie.After-of-kind Inv-loop μ-loop) → c .of-kind .result ≤ 4294967296 * 17
+sum-fits c =
+    let turn = c .before .before .before .before in
+    let (more, sums) = loop-of turn .loop .inv in
+    let st = start-of (loop-of turn) in
+    let top = turned turn in
+    let fit = of-kind-fits (problemOf (st .args .sheet .now) .kind) (turn .larger .result) (loop-of turn .loop .total + turn .before .long .result) in
+    omega (arith, fit, c .of-kind .ensures, top .summed, top .largest, more, inside st)
 
 add-cut-off : tie.Need-add-cut-off Inv-loop μ-loop
-add-cut-off c =
-    omega (arith, c .before .before .long .ensures .1, c .before .loop .inv .1, c .before .before .before .before .successor-count .ensures .1)
+add-cut-off c = omega (arith, sum-fits c, c .before .long2 .ensures .1)
 
 cut-off-requires : tie.Need-cut-off-requires Inv-loop μ-loop
 cut-off-requires c κs = search needs
 
 returns : tie.Need-returns Inv-loop μ-loop
 returns c =
-    let a = c .before .before .before .before .before .before .before .before .args in
-    let loop = c .before .before .loop in
-    let ts = successorsAt (a .sheet .now) (a .at) in
-    let e : loop .j ≡ length ts = omega (arith, c .before .before .before .before .before .successor-count .ensures .0) in
-    let all : joinedAt (a .kind) (a .sheet .now) (a .at) ≡ loop .total =
-    rw e at (loop .inv .2) ∙ joined-end (kindOf (a .kind)) (valueOf (cellsOf (a .sheet .now))) ts (loop .total) in
-    (cc, c .cut-off .ensures .1)
+    let turn = c .before .before .before .before .before in
+    let at-loop = loop-of turn in
+    let a = start-of at-loop .args in
+    let last : at-loop .loop .j + 1 ≡ length (successorsAt (a .sheet .now) (a .at)) =
+    omega (arith, at-loop .loop .inv .0, at-loop .before .next-action .ensures .0, c .before .before .before .before .if1 .taken) in
+    let all = sums-all (turned turn) (problemOf (a .sheet .now) .kind) last in (cc, c .cut-off .ensures .1)
 
 pub price-spec : {M : Type 1} → statement M
 price-spec =
@@ -97,17 +134,22 @@ price-spec =
     (tie.spec
     Inv-loop
     μ-loop
-    successor-count-requires
-    action-cost-requires
-    long-requires
+    next-action-requires
     loop-holds
     successor-requires
     add-j
     value-at-requires
-    long-requires-2
-    join-two-requires
+    long-requires
+    add-total
+    larger-requires
+    add-if1
+    mul-if1
+    add-if1-2
     loop-less
     loop-again
+    action-cost-requires
+    long-requires-2
+    of-kind-requires
     add-cut-off
     cut-off-requires
     returns)

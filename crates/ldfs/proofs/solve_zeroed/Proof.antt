@@ -1,0 +1,109 @@
+-- The questions, and then a refusal or the work. A line of code put between two places lengthens the function that leads from one to the other by a
+-- `.before`.
+use mathlib.Core.Path.{_≡_, sym, _∙_}
+use borrow.Author.Needs.{needs}
+use lib.ListN.{length}
+use Rattle.model.specs.Format.{Bytes}
+use Rattle.model.specs.Questions.{sheetRefusal}
+use Rattle.questions.specs.declared.Verdict.the-variants.{Accepted}
+use Rattle.questions.specs.Verdicts.{verdict}
+use Rattle.ldfs.proofs.Solving.{refused-by, start-within, workable, no-budget, worked}
+use Rattle.ldfs.proofs.solve_zeroed.Statement.{statement}
+use Rattle.ldfs.proofs.solve_zeroed.Tie as tie
+
+-- from place to place
+abbrev start-of : tie.After-ask → tie.Start
+start-of c = c .before .before .before .before .before
+
+abbrev ask-of : tie.After-enum-told → tie.After-ask
+ask-of c = c .before .before .before .before
+
+-- every answer is yes, and the sheet holds bytes
+accepted-at : (c : tie.After-enum-told) → let a = start-of (ask-of c) .args in Accepted ≡ verdict (sheetRefusal (a .sheet .now) (length (a .table .now)))
+accepted-at c = sym (c .enum-told .given .1) ∙ ask-of c .ask .ensures .0
+
+bytes-at : (c : tie.After-ask) → Bytes (start-of c .args .sheet .now)
+bytes-at c = λ i. c .before .before .before .before .slice-known .given i .fits
+
+ask-requires : tie.Need-ask-requires
+ask-requires c κs = search needs
+
+enum-known-v : tie.Need-enum-known-v
+enum-known-v c = search needs
+
+refusal-requires : tie.Need-refusal-requires
+refusal-requires c κs = search needs
+
+enum-told : tie.Need-enum-told
+enum-told c = search needs
+
+clear-requires : tie.Need-clear-requires
+clear-requires c κs = search needs
+
+refusal-requires-2 : tie.Need-refusal-requires-2
+refusal-requires-2 c κs = search needs
+
+finish-requires : tie.Need-finish-requires
+finish-requires c κs =
+    let yes = c .before .before .before in
+    let a = ask-of yes in
+    let budget = start-of a .args .budget in
+    (start-within _ _ budget (accepted-at yes) (bytes-at a) _ (a .ask .ensures .1), workable _ _ budget (accepted-at yes) (bytes-at a) _ (a .ask .ensures .1))
+
+same-length : tie.Need-same-length
+same-length c = search needs
+
+same-length-2 : tie.Need-same-length-2
+same-length-2 c = search needs
+
+returns : tie.Need-returns
+returns c =
+    let a = c .before .before .before .before .before .before in
+    refused-by _ _ (start-of a .args .budget) _ (sym (c .before .before .v .given .1) ∙ a .ask .ensures .0) _ (c .refusal .ensures) _ (a .ask .ensures .1)
+
+same-length-3 : tie.Need-same-length-3
+same-length-3 c = search needs
+
+same-length-4 : tie.Need-same-length-4
+same-length-4 c = search needs
+
+returns-2 : tie.Need-returns-2
+returns-2 c =
+    let yes = c .before .before .before .before .before .before in
+    let a = ask-of yes in
+    no-budget _ _ _ (accepted-at yes) (bytes-at a) _ (a .ask .ensures .1) (c .before .before .before .before .before .if1 .taken) _
+    (c .refusal2 .ensures) _ (c .before .before .before .clear .ensures)
+
+same-length-5 : tie.Need-same-length-5
+same-length-5 c = search needs
+
+same-length-6 : tie.Need-same-length-6
+same-length-6 c = search needs
+
+returns-3 : tie.Need-returns-3
+returns-3 c =
+    let yes = c .before .before .before .before .before .before in
+    let a = ask-of yes in
+    worked _ _ _ (accepted-at yes) (bytes-at a) _ (a .ask .ensures .1) (c .before .before .before .before .before .if1 .left) _ _
+    (c .before .before .finish .ensures)
+
+pub solve-zeroed-spec : {M : Type 1} → statement M
+solve-zeroed-spec =
+    tie.close
+    (tie.spec
+    ask-requires
+    enum-known-v
+    refusal-requires
+    enum-told
+    clear-requires
+    refusal-requires-2
+    finish-requires
+    same-length
+    same-length-2
+    returns
+    same-length-3
+    same-length-4
+    returns-2
+    same-length-5
+    same-length-6
+    returns-3)
