@@ -1,20 +1,21 @@
-//! Compiles the plain C copy with -O3, and links it.
+//! Compiles the plain C copy and the lower bounds with -O3, and links them.
 
 use std::env;
 use std::path::PathBuf;
 use std::process::Command;
 
-const SOURCE: &str = "../c/plain.c";
-
 fn main() {
-    println!("cargo:rerun-if-changed={SOURCE}");
     let out = PathBuf::from(env::var("OUT_DIR").expect("cargo sets OUT_DIR"));
-    let (object, archive) = (out.join("plain.o"), out.join("libplain.a"));
-    let flags = ["-std=c99", "-O3", "-fPIC", "-Wall", "-Wextra", "-Werror", "-c", SOURCE, "-o"];
-    run(Command::new("cc").args(flags).arg(&object));
-    run(Command::new("ar").arg("rcs").arg(&archive).arg(&object));
     println!("cargo:rustc-link-search=native={}", out.display());
-    println!("cargo:rustc-link-lib=static=plain");
+    for name in ["plain", "bounds"] {
+        let source = format!("../c/{name}.c");
+        println!("cargo:rerun-if-changed={source}");
+        let (object, archive) = (out.join(format!("{name}.o")), out.join(format!("lib{name}.a")));
+        let flags = ["-std=c99", "-O3", "-fPIC", "-Wall", "-Wextra", "-Werror", "-c", &source, "-o"];
+        run(Command::new("cc").args(flags).arg(&object));
+        run(Command::new("ar").arg("rcs").arg(&archive).arg(&object));
+        println!("cargo:rustc-link-lib=static={name}");
+    }
 }
 
 fn run(command: &mut Command) {

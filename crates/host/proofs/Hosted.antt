@@ -98,8 +98,10 @@ module _ (s t : List ℕ) (budget : ℕ) (r : List ℕ) where
         let few : entries t < maxStates = omega arith in let no : refusal s (entries t) budget ≡ 1 = refused-short s budget (entries t) few in
         rw (le-leb 24 (length r) room, no, lt-leb maxStates (entries t) few) (refl, (refl, (refl, told ∙ rw e)))
 
-    pub long-table : (m : ℕ) → maxStates ≤ m → m ≤ entries t → (s′ w t′ : List ℕ) (k : ℕ) → Filled s (replicate m 0) budget a s′ w →
-        t′ ≡ entryBytes (lengthened w (entries t)) ++ drop (4 * entries t) t → k ≡ number (a .outcome) → Hosted s t budget r k s′ t′ r′
+    pub long-table : (m : ℕ) → maxStates ≤ m → m ≤ entries t → (s′ w t′ : List ℕ) (k : ℕ) →
+        Filled s (replicate m 0) budget a s′ w →
+        t′ ≡ entryBytes (lengthened w (entries t)) ++ drop (4 * entries t) t → k ≡ number (a .outcome) →
+        Hosted s t budget r k s′ t′ r′
     unfolding hostNumber hostSheet hostTable hostResult
     long-table m enough le s′ w t′ k filled put e =
         let solved = zeros-solved s budget m enough filled in

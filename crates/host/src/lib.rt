@@ -60,7 +60,8 @@ fn entry(table: &[u32], i: usize) -> u64
     if i < table.len() { table[i] as u64 } else { 0 }
 }
 
-// The entries of the index table as bytes, as far as whole entries go: the table's own, and then zeros. The two loops compile to a copy and a fill.
+// The entries of the index table as bytes, as far as whole entries go: the table's own, and then zeros. The two loops compile to a copy and
+// a fill.
 fn put_table(bytes: &mut [u8], table: &[u32; MAX_STATES])
     requires { ⌜ 4 * maxStates ≤ length (now bytes) ⌝ }
     ensures { λ _. ⌜ now (bytes .exit) ≡ entryBytes (lengthened (now (table .entry)) (entries (now (bytes .entry)))) ++

@@ -28,11 +28,11 @@ use Rattle.questions.specs.declared.Verdict.the-variants.{Accepted, Refused as 
 use Rattle.questions.specs.Verdicts.{verdict}
 use Rattle.questions.specs.Put.{indexedBefore, askedTable}
 use Rattle.questions.proofs.Asking.{first-from, cleared, cleared-zeros, cleared-length, from-cleared}
-use Rattle.ldfs.specs.declared.visits.Way.{Way}
-use Rattle.ldfs.specs.declared.visits.Way.the-variants.{Success, Failure, Halt}
-use Rattle.ldfs.specs.declared.passes.Passes.{Passes as PassesMade}
-use Rattle.ldfs.specs.Made.{filledTable, Filled, Solved}
-use Rattle.ldfs.specs.Did.{search, visitOf, Workable, DidPasses, Finished}
+use Rattle.search.specs.declared.visits.Way.{Way}
+use Rattle.search.specs.declared.visits.Way.the-variants.{Success, Failure, Halt}
+use Rattle.search.specs.declared.passes.Passes.{Passes as PassesMade}
+use Rattle.ldfs.specs.Made.{Finished, filledTable, Filled, Solved}
+use Rattle.search.specs.Did.{search, visitOf, Workable, DidPasses}
 
 -- the start's number, and the head's bytes, of a sheet
 pub start-is : (s : List ℕ) → be16 s 6 ≡ problemOf s .start
@@ -64,7 +64,8 @@ module _ (s : List ℕ) (budget : ℕ) {t s′ : List ℕ} {w : PassesMade} (d :
   answered o price = record { outcome = o; price = price; passes = w .begun; raises = w .raises; budget = budget }
 
   -- by the start's cell
-  pub answers : {start price : ℕ} {o : Outcome} → start ≡ problemOf s .start → price ≡ valueOf (cellsOf s′) start → o ≡ outcomeOf (cellOf (cellsOf s′) start) →
+  pub answers : {start price : ℕ} {o : Outcome} → start ≡ problemOf s .start → price ≡ valueOf (cellsOf s′) start →
+      o ≡ outcomeOf (cellOf (cellsOf s′) start) →
       Finished s s′ (answered o price) budget
   answers at v e = record {
     bytes = d .sheet .is ∙ ap (write (problemOf s)) (sym cells-left);
@@ -102,7 +103,8 @@ module _ (s t : List ℕ) (budget : ℕ) where
   unfolding answerTo bytesAfter filledTable onRefusal
   refused-call k e r a t′ last = rw e (a, (refl, last))
 
-  worked-call : refusal s (length t) budget ≡ 0 → (s′ t′ : List ℕ) (r : Answer) → Finished s s′ r budget → t′ ≡ indexedBefore s t → Filled s t budget r s′ t′
+  worked-call : refusal s (length t) budget ≡ 0 → (s′ t′ : List ℕ) (r : Answer) → Finished s s′ r budget →
+      t′ ≡ indexedBefore s t → Filled s t budget r s′ t′
   unfolding answerTo bytesAfter filledTable onRefusal
   worked-call e s′ t′ r f last = rw e (f .said, (f .bytes, last))
 
@@ -157,9 +159,13 @@ module _ (s t : List ℕ) (budget : ℕ) where
       start-within = record { sheet = indexed _ (stands .is) (stands .asked .shaped) filled; below = stands .asked .shaped .start }
 
       pub workable : Workable s
-      workable = record { formed = asked-problem (problemOf s) (cellsOf s) (stands .asked); consistent = asked-cells (problemOf s) (cellsOf s) (stands .asked) }
+      workable = record {
+        formed = asked-problem (problemOf s) (cellsOf s) (stands .asked);
+        consistent = asked-cells (problemOf s) (cellsOf s) (stands .asked);
+      }
 
-      pub no-budget : budget ≡ 0 → (r : Answer) → r ≡ refused budget 9 → (t″ : List ℕ) → t″ ≡ cleared t′ → Filled s t budget r s t″
+      pub no-budget : budget ≡ 0 → (r : Answer) → r ≡ refused budget 9 → (t″ : List ℕ) → t″ ≡ cleared t′ →
+          Filled s t budget r s t″
       unfolding question9 refusedTable
       no-budget z r a t″ last = refused-call 8 (by-budget ∙ rw z) r a t″ (last ∙ cleared-zeros t′ ∙ rw long)
 
@@ -187,7 +193,8 @@ module _ (s t : List ℕ) (budget : ℕ) where
         (rw long at (f .0), (rw long at (f .1 .0), table ∙ from-cleared s t (refusal s (length t) budget) number))
 
 -- a table of zeros is one that was cleared
-pub zeros-solved : (s : List ℕ) (budget m : ℕ) → maxStates ≤ m → {r : Answer} {s′ t′ : List ℕ} → Filled s (replicate m 0) budget r s′ t′ →
+pub zeros-solved : (s : List ℕ) (budget m : ℕ) → maxStates ≤ m → {r : Answer} {s′ t′ : List ℕ} →
+    Filled s (replicate m 0) budget r s′ t′ →
     Solved s (replicate m 0) budget r s′ t′
 zeros-solved s budget m ge f =
     let same : cleared (replicate m 0) ≡ replicate m 0 = cleared-zeros (replicate m 0) ∙ rw length-replicate in

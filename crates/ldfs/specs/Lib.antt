@@ -1,4 +1,1 @@
-pub mod Did
 pub mod Made
-pub mod Keeps
-pub mod Opens

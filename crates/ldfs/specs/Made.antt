@@ -1,21 +1,31 @@
--- Calls of `solve`, by what its contract ensures: its answers and the bytes that it left, one call after the other.
+-- What the contracts of a call say, and calls of `solve` by what its contract ensures: its answers and the bytes that it left, one call
+-- after the other.
 use Prim.Native.Nat.{ℕ}
 use mathlib.Core.Path.{_≡_}
 use mathlib.Core.List.{List, [], _∷_}
 use lib.ListN.{length}
 use Rattle.model.specs.declared.Answer.{Answer}
+use Rattle.model.specs.Format.{write}
+use Rattle.model.specs.Read.{problemOf, cellsOf}
 use Rattle.model.specs.Questions.{refusal}
-use Rattle.model.specs.Report.{onRefusal, refusedTable, answerTo, bytesAfter, tableAfter}
+use Rattle.model.specs.Ldfs.{work}
+use Rattle.model.specs.Report.{cellsAfter, finished, onRefusal, refusedTable, answerTo, bytesAfter, tableAfter}
 use Rattle.model.specs.Calls.{Call, callOf}
 use Rattle.questions.specs.Put.{indexedBefore}
+
+-- the bytes s′ and the answer r are the work of a call on the sheet s
+pub record Finished (s s′ : List ℕ) (r : Answer) (budget : ℕ) : Type 0 where
+  pub bytes : s′ ≡ write (problemOf s) (cellsAfter (work (problemOf s) (cellsOf s) budget))
+  pub said : r ≡ finished (problemOf s) budget (work (problemOf s) (cellsOf s) budget)
 
 -- the table's content after `solve_zeroed`: what stood past an accepted sheet's last stage stays there
 unfoldable pub filledTable : List ℕ → List ℕ → ℕ → List ℕ
 filledTable s t budget = onRefusal (refusal s (length t) budget) (λ _. indexedBefore s t) (refusedTable t)
 
--- `solve_zeroed`'s contract, clause by clause: called on the bytes s with the table t, it returned r, and left the bytes s′ and the table t′
+-- `solve_zeroed`'s contract, clause by clause: called on the bytes s and the table t, it returned r and left s′ and t′
 abbrev pub Filled : List ℕ → List ℕ → ℕ → Answer → List ℕ → List ℕ → Type 0
-Filled s t budget r s′ t′ = (r ≡ answerTo s (length t) budget) × ((s′ ≡ bytesAfter s (length t) budget) × (t′ ≡ filledTable s t budget))
+Filled s t budget r s′ t′ =
+    (r ≡ answerTo s (length t) budget) × ((s′ ≡ bytesAfter s (length t) budget) × (t′ ≡ filledTable s t budget))
 
 -- `solve`'s contract, likewise
 abbrev pub Solved : List ℕ → List ℕ → ℕ → Answer → List ℕ → List ℕ → Type 0

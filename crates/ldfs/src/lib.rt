@@ -1,24 +1,20 @@
-// Learning depth-first search over the bytes of a sheet, and the public `solve`.
-mod kept; // kept.rt: the least price, and the prices kept for it
-mod visits; // visits.rt: a visit to a state
-mod passes; // passes.rt: passes, visits to the start
-
+// A call on any bytes: the questions, the search on an accepted sheet, and the answer. The public `solve`.
 ghost use mathlib.Core.Path.{_≡_};
 ghost use lib.ListN.{length};
 ghost use Rattle.model.specs.Problem.{Cell, solved};
 ghost use Rattle.model.specs.Read.{problemOf};
 ghost use Rattle.model.specs.Report.{outcomeOf, refused, answerTo, bytesAfter, tableAfter};
 ghost use Rattle.sheet.specs.Sheet.{Within};
-ghost use Rattle.ldfs.specs.Did.{Workable, Finished};
-ghost use Rattle.ldfs.specs.Made.{filledTable};
+ghost use Rattle.search.specs.Did.{Workable};
+ghost use Rattle.ldfs.specs.Made.{Finished, filledTable};
 use model::Answer;
 use model::LONG_CEILING;
 use model::MAX_STATES;
 use model::Outcome;
-use passes::work;
 use questions::Verdict;
 use questions::ask;
 use questions::clear;
+use search::passes::work;
 use sheet::fields::solved_at;
 use sheet::fields::value_at;
 use sheet::numbers::get16;
@@ -71,8 +67,8 @@ fn finish(sheet: &mut [u8], table: &[u32], budget: u64) -> Answer
     }
 }
 
-// Works any bytes as a sheet, with any table and any budget, as `solve` does, but the entries past an accepted sheet's last stage stay as they are: for
-// a table that is known to be zero it is `solve` without the clearing.
+// Works any bytes as a sheet, with any table and any budget, as `solve` does, but the entries past an accepted sheet's last stage stay as
+// they are: for a table that is known to be zero it is `solve` without the clearing.
 pub fn solve_zeroed(sheet: &mut [u8], table: &mut [u32], budget: u64) -> Answer
     ensures answer { λ r. ⌜ r ≡ answerTo (now (sheet .entry)) (length (now (table .entry))) budget ⌝ }
     ensures sheet { λ _. ⌜ now (sheet .exit) ≡ bytesAfter (now (sheet .entry)) (length (now (table .entry))) budget ⌝ }
@@ -92,8 +88,8 @@ pub fn solve_zeroed(sheet: &mut [u8], table: &mut [u32], budget: u64) -> Answer
     }
 }
 
-// Works any bytes as a sheet, with any table and any budget. What it answers, and what it leaves in the sheet and in the table, is what document 01's
-// questions and procedure give: for every input, refused or not.
+// Works any bytes as a sheet, with any table and any budget. What it answers, and what it leaves in the sheet and in the table, is what
+// document 01's questions and procedure give: for every input, refused or not.
 pub fn solve(sheet: &mut [u8], table: &mut [u32], budget: u64) -> Answer
     ensures answer { λ r. ⌜ r ≡ answerTo (now (sheet .entry)) (length (now (table .entry))) budget ⌝ }
     ensures sheet { λ _. ⌜ now (sheet .exit) ≡ bytesAfter (now (sheet .entry)) (length (now (table .entry))) budget ⌝ }

@@ -15,7 +15,7 @@ use Rattle.model.specs.Format.{actionOffset}
 use Rattle.model.specs.Read.{actionFits, actionRead, problemOf, cellsOf}
 use Rattle.sheet.specs.Sheet.{Within, Terminal, Decision}
 use Rattle.sheet.proofs.Laws.{is-terminal, is-decision, actionsAt}
-use Rattle.ldfs.proofs.Actions.{Turn, turn-is, turn-fits, turn-priced}
+use Rattle.search.proofs.Actions.{Turn, turn-is, turn-fits, turn-priced}
 use Rattle.listing.specs.Listing.{stateLine, findingsOf, findings, listed, reachedBelow, stateLines}
 use Rattle.listing.specs.Put.{Wrote, Listable, raised}
 use Rattle.listing.proofs.Writing.{wrote-none, wrote-length, wrote-behind}

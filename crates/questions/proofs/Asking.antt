@@ -204,10 +204,12 @@ pub cleared-length : (t : List ℕ) → length (cleared t) ≡ length t
 cleared-length t = rw (cleared-zeros, length-replicate)
 
 -- the questions put with a table t that was cleared first
-pub cleared-table : (s t t″ : List ℕ) {v : Verdict} → maxStates ≤ length t → v ≡ verdict (sheetRefusal s (length (cleared t))) →
+pub cleared-table : (s t t″ : List ℕ) {v : Verdict} → maxStates ≤ length t →
+    v ≡ verdict (sheetRefusal s (length (cleared t))) →
     t″ ≡ askedTable s (cleared t) → (v ≡ verdict (sheetRefusal s (length t))) × (t″ ≡ checkedTable s t)
 unfolding askedTable checkedTable
 cleared-table s t t″ ge answer table =
     let long = cleared-length t in
-    let number : (sheetRefusal s (length t) ≡ 0) ⊎ (2 ≤ sheetRefusal s (length t)) = rw (refusal-is s t ge) (first-from 2 (sheetQuestions s)) in
+    let number : (sheetRefusal s (length t) ≡ 0) ⊎ (2 ≤ sheetRefusal s (length t)) =
+    rw (refusal-is s t ge) (first-from 2 (sheetQuestions s)) in
     (rw long at answer, (rw long at table) ∙ from-cleared s t (sheetRefusal s (length t)) number)

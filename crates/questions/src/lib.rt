@@ -5,14 +5,13 @@ pub mod states; // states.rt: questions 5 to 8
 ghost use mathlib.Core.Path.{_≡_};
 ghost use mathlib.Core.List.{List, _++_};
 ghost use Prim.Native.Nat.{ℕ, _-_, _<_, _≤_};
-ghost use lib.ListN.{length, drop, take, replicate};
+ghost use lib.ListN.{length, take, replicate};
 ghost use Rattle.model.specs.Problem.{states};
-ghost use Rattle.model.specs.Format.{offsetsFrom};
 ghost use Rattle.model.specs.Read.{problemOf, cellsOf};
 ghost use Rattle.model.specs.Questions.{maxStates, question3, sheetQuestions, firstNo, sheetRefusal};
 ghost use Rattle.model.specs.Report.{checkedTable};
 ghost use Rattle.sheet.specs.Sheet.{Within};
-ghost use Rattle.questions.specs.Put.{statesNo, askedTable};
+ghost use Rattle.questions.specs.Put.{statesNo, indexedBefore, askedTable};
 ghost use Rattle.questions.specs.Verdicts.{verdict};
 use model::MAX_BYTES;
 use model::MAX_STATES;
@@ -86,7 +85,7 @@ fn states_no(sheet: &[u8], table: &[u32], n: usize) -> u32
 fn first_no(sheet: &[u8], table: &mut [u32]) -> u32
     requires { ⌜ maxStates ≤ length (now table) ⌝ }
     ensures { λ r. ⌜ r ≡ firstNo 2 (sheetQuestions (now (sheet .entry))) ⌝ }
-    ensures { λ r. ⌜ (r ≡ 0 → now (table .exit) ≡ offsetsFrom 8 (problemOf (now (sheet .entry)) .nodes) ++ drop (states (problemOf (now (sheet .entry)))) (now (table .entry))) ⌝ }
+    ensures { λ r. ⌜ (r ≡ 0 → now (table .exit) ≡ indexedBefore (now (sheet .entry)) (now (table .entry))) ⌝ }
 {
     if sheet.len() < 20 {
         return 2;
@@ -117,8 +116,8 @@ pub fn clear(table: &mut [u32], from: usize)
     }
 }
 
-// Questions 1 to 8 put to any bytes, with any table. The table's later content is unchanged at 1, all zero at 2 to 8, and when accepted it begins with
-// the stages' offsets and stays as it was past the last stage.
+// Questions 1 to 8 put to any bytes, with any table. The table's later content is unchanged at 1, all zero at 2 to 8, and when accepted it
+// begins with the stages' offsets and stays as it was past the last stage.
 pub fn ask(sheet: &[u8], table: &mut [u32]) -> Verdict
     ensures answer { λ r. ⌜ r ≡ verdict (sheetRefusal (now (sheet .entry)) (length (now (table .entry)))) ⌝ }
     ensures table { λ _. ⌜ now (table .exit) ≡ askedTable (now (sheet .entry)) (now (table .entry)) ⌝ }
@@ -135,8 +134,8 @@ pub fn ask(sheet: &[u8], table: &mut [u32]) -> Verdict
     }
 }
 
-// Questions 1 to 8 put to any bytes, with any table. The table's later content is unchanged at 1, all zero at 2 to 8, and the stages' offsets and then
-// zeros when accepted.
+// Questions 1 to 8 put to any bytes, with any table. The table's later content is unchanged at 1, all zero at 2 to 8, and the stages'
+// offsets and then zeros when accepted.
 pub fn check(sheet: &[u8], table: &mut [u32]) -> Verdict
     ensures answer { λ r. ⌜ r ≡ verdict (sheetRefusal (now (sheet .entry)) (length (now (table .entry)))) ⌝ }
     ensures table { λ _. ⌜ now (table .exit) ≡ checkedTable (now (sheet .entry)) (now (table .entry)) ⌝ }

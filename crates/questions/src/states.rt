@@ -85,7 +85,8 @@ fn in_range(sheet: &[u8], table: &[u32], state: usize) -> bool
     if mark == 1 { chosen < n } else { chosen == 0 }
 }
 
-// Are the successors of the action at `at` strictly ascending, above `low` and below `n`? Where they ascend, the last of them alone is held to `n`.
+// Are the successors of the action at `at` strictly ascending, above `low` and below `n`? Where they ascend, the last of them alone is held
+// to `n`.
 fn ascending_at(sheet: &[u8], at: usize, low: usize, n: usize) -> bool
     requires { ⌜ actionFits (drop at (now sheet)) ≡ true ⌝ }
     ensures { λ r. ⌜ r ≡ ascending low n (actionRead (drop at (now (sheet .entry))) .successors) ⌝ }

@@ -85,7 +85,8 @@ module _ {v : ℕ → ℕ} {ts : List ℕ} where
 
   module _ {total most j : ℕ} (h : Sums v ts total most j) where
     -- successor number j is t, whose value is x
-    pub sums-more : {t x top : ℕ} → j < length ts → t ≡ getD ts j 0 → x ≡ v t → x < 4294967296 → top ≡ max most x → Sums v ts (total + x) top (j + 1)
+    pub sums-more : {t x top : ℕ} → j < length ts → t ≡ getD ts j 0 → x ≡ v t → x < 4294967296 → top ≡ max most x →
+        Sums v ts (total + x) top (j + 1)
     sums-more lt at e small larger = record {
       summed = omega (arith, h .summed);
       largest = omega (arith, h .largest, larger);
@@ -104,7 +105,8 @@ module _ (f : Action → ℕ) (acts : List Action) where
   abbrev pub leastSoFar : ℕ → ℕ → ℕ
   leastSoFar i x = leastFrom x f (drop i acts)
 
-  pub least-turn : (x : ℕ) {i y : ℕ} → i < length acts → y ≡ min x (f (actionAt acts i)) → leastSoFar i x ≡ leastSoFar (i + 1) y
+  pub least-turn : (x : ℕ) {i y : ℕ} → i < length acts → y ≡ min x (f (actionAt acts i)) →
+      leastSoFar i x ≡ leastSoFar (i + 1) y
   unfolding leastFrom
   least-turn x {i} lt e = rw (add-one, drop-cons acts i (action 0 []) lt, e)
 

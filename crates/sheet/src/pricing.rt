@@ -41,11 +41,12 @@ fn cut_off(x: u64) -> u32
     if x < LONG_CEILING { x as u32 } else { CEILING }
 }
 
-// The price of the action at `at`, by the sheet's kind and the current values. An action has a successor, so the loop is tested at its end, and both
-// the largest value and the sum are kept: one loop without a test of the kind.
+// The price of the action at `at`, by the sheet's kind and the current values. An action has a successor, so the loop is tested at its end,
+// and both the largest value and the sum are kept: one loop without a test of the kind.
 pub fn price(sheet: &[u8], table: &[u32], at: usize) -> Pricing
     requires { ⌜ Priced (now sheet) (now table) at ⌝ }
-    ensures { λ r. ⌜ (r .price ≡ q (problemOf (now (sheet .entry)) .kind) (valueOf (cellsOf (now (sheet .entry)))) (actionRead (drop at (now (sheet .entry))))) ×
+    ensures { λ r. ⌜ (r .price ≡ q (problemOf (now (sheet .entry)) .kind) (valueOf (cellsOf (now (sheet .entry))))
+        (actionRead (drop at (now (sheet .entry))))) ×
         (r .price ≤ 1000000000) ⌝ }
 {
     let end = next_action(sheet, at);

@@ -68,11 +68,14 @@ module _ (p : Problem) (budget : ℕ) (v : ℕ → Search → Visit) (s : ℕ) w
     action-skipped h = rw (left, lt-ltb (valueAt w s) (priceAt p w (actionAt acts i)) h)
 
     -- an action tried, and what is next where it fails
-    tried-then : (next : Search → Visit) → tryOne p budget v s acts i next w ≡ onVisit (tryOne p budget v s acts i failure w) success next
+    tried-then : (next : Search → Visit) →
+        tryOne p budget v s acts i next w ≡ onVisit (tryOne p budget v s acts i failure w) success next
     unfolding tryOne onVisit
     tried-then next = go (visitAll p budget v s (actionAt acts i) (actionAt acts i .successors) w)
       where
-        go : (r : Visit) → onVisit r (λ w″. success (marked s i w″)) next ≡ onVisit (onVisit r (λ w″. success (marked s i w″)) failure) success next
+        go : (r : Visit) →
+            onVisit r (λ w″. success (marked s i w″)) next ≡ onVisit (onVisit r (λ w″. success (marked s i w″)) failure) success
+            next
         go (success w″) = refl
         go (failure w″) = refl
         go (halt w″) = refl
@@ -96,7 +99,8 @@ module _ (p : Problem) (budget : ℕ) (v : ℕ → Search → Visit) (s : ℕ) w
 
   -- one action tried, by how the visits to its successors end
   module _ (acts : List Action) (i : ℕ) (w w′ : Search) where
-    pub try-passes : successorsFrom (actionAt acts i) 0 w ≡ success w′ → tryOne p budget v s acts i failure w ≡ success (marked s i w′)
+    pub try-passes : successorsFrom (actionAt acts i) 0 w ≡ success w′ →
+        tryOne p budget v s acts i failure w ≡ success (marked s i w′)
     unfolding tryOne onVisit
     try-passes e = rw e
 

@@ -225,7 +225,8 @@ module _ (p : Problem) (wf : WellFormed p) (budget : ℕ) where
 
   -- an action of s that is tried and abandoned leaves s and the states before it alone
   pub abandoned-leads : (s i : ℕ) (acts : List Action) → nodeAt p s ≡ decision acts → (w w′ : Search) → Ready p budget w →
-      priceAt p w (actionAt acts i) ≤ valueAt w s → tryOne p budget (visit p budget (states p)) s acts i failure w ≡ failure w′ → Leads p budget (suc s) w w′
+      priceAt p w (actionAt acts i) ≤ valueAt w s → tryOne p budget (visit p budget (states p)) s acts i failure w ≡ failure w′ →
+      Leads p budget (suc s) w w′
   unfolding tryOne onVisit
   abandoned-leads s i acts node w w′ ready le =
       go (visitAll p budget to s (actionAt acts i) (actionAt acts i .successors) w)
@@ -237,7 +238,8 @@ module _ (p : Problem) (wf : WellFormed p) (budget : ℕ) where
       does : Visits s to
       does t w″ lt tn r = visit-does (states p) t w″ (omega arith) tn r
 
-      go : (r : Visit) → AllVisited p budget s (actionAt acts i) (actionAt acts i .successors) w r → onVisit r (λ w″. success (marked s i w″)) failure ≡ failure w′ →
+      go : (r : Visit) → AllVisited p budget s (actionAt acts i) (actionAt acts i .successors) w r →
+          onVisit r (λ w″. success (marked s i w″)) failure ≡ failure w′ →
           Leads p budget (suc s) w w′
       go (success w″) x e = let z : _≡_ {A = ℕ} 0 1 = cc in absurd (omega arith)
       go (failure w″) x e = let same : w″ ≡ w′ = cc in rw (← same) (x .0)

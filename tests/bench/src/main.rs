@@ -2,8 +2,10 @@
 //!
 //! The sheet is copied afresh for every call, outside the measured time; the table and the result are cleared before each batch of
 //! calls, also outside, and not between its calls. Rounds of the three follow one another, and the quickest round of each counts.
-//! With a solver and a sheet as words it makes one call only, for a profiler.
+//! With a solver and a sheet as words it makes one call only, for a profiler. With `growth` it measures the library and the C copy on
+//! sheets of about 60,000 bytes that grow in one thing each, beside two lower bounds.
 
+mod growth;
 mod plain;
 mod sheets;
 
@@ -17,10 +19,16 @@ type Solve = fn(&mut [u8], &mut [u8], u64, &mut [u8]) -> u32;
 
 extern "C" {
     fn plain_solve(s: *mut u8, sl: usize, t: *mut u8, tl: usize, budget: u64, r: *mut u8, rl: usize) -> u32;
+    fn bound_touch(s: *mut u8, sl: usize, t: *mut u8, tl: usize, budget: u64, r: *mut u8, rl: usize) -> u32;
+    fn bound_sweep(s: *mut u8, sl: usize, t: *mut u8, tl: usize, budget: u64, r: *mut u8, rl: usize) -> u32;
 }
 
 const SOLVERS: [(&str, Solve); 3] =
     [("library", library::solve), ("plain Rust", plain::solve), ("plain C", |s, t, b, r| through(plain_solve, s, t, b, r))];
+
+/// What every solver does at least: each byte read once for the questions; the price alone, by one sweep backwards.
+const BOUNDS: [(&str, Solve); 2] =
+    [("touch", |s, t, b, r| through(bound_touch, s, t, b, r)), ("sweep", |s, t, b, r| through(bound_sweep, s, t, b, r))];
 
 const ROUNDS: usize = 50;
 const ROUND_TIME: Duration = Duration::from_millis(20);
@@ -36,15 +44,16 @@ fn run() {
     let words: Vec<String> = env::args().skip(1).collect();
     match &words[..] {
         [] => measure_all(),
+        [word] if word == "growth" => measure_growth(),
         [solver, sheet] => once(solver, sheet),
-        _ => panic!("no words, or a solver and a sheet, as the table names them"),
+        _ => panic!("no words, `growth`, or a solver and a sheet, as the tables name them"),
     }
 }
 
 /// One call, for a profiler.
 fn once(solver: &str, sheet: &str) {
-    let (_, solve) = SOLVERS.into_iter().find(|(name, _)| *name == solver).expect("a solver's name");
-    let sample = sheets::all().into_iter().find(|sample| sample.name == sheet).expect("a sheet's name");
+    let (_, solve) = SOLVERS.into_iter().chain(BOUNDS).find(|(name, _)| *name == solver).expect("a solver's name");
+    let sample = sheets::all().into_iter().chain(growth::all()).find(|sample| sample.name == sheet).expect("a sheet's name");
     batch(solve, &sample, 1);
 }
 
@@ -81,6 +90,24 @@ fn measure(sample: &Sample) {
         library / rust,
         library / c
     );
+}
+
+fn measure_growth() {
+    println!("{:<34} {:>7} {:>7} {:>8} {:>12} {:>12} {:>12} {:>12}", "sheet", "bytes", "passes", "raises", "library", "plain C", "sweep", "touch");
+    for sample in growth::all() {
+        let (passes, raises) = same_answers(&sample);
+        let copies = copies_for(&sample);
+        let mut best = [Duration::MAX; 4];
+        let solvers = [SOLVERS[0], SOLVERS[2], BOUNDS[1], BOUNDS[0]];
+        for _ in 0..ROUNDS {
+            for (place, (_, solve)) in solvers.iter().enumerate() {
+                best[place] = best[place].min(batch(*solve, &sample, copies));
+            }
+        }
+        let [library, c, sweep, touch] = best.map(|time| time.as_secs_f64() * 1e6 / copies as f64);
+        let (name, bytes) = (sample.name, sample.bytes.len());
+        println!("{name:<34} {bytes:>7} {passes:>7} {raises:>8} {library:>9.1} us {c:>9.1} us {sweep:>9.1} us {touch:>9.1} us");
+    }
 }
 
 /// So many calls, each on a fresh copy of the sheet.

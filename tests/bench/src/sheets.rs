@@ -11,20 +11,20 @@ pub fn all() -> Vec<Sample> {
     vec![
         sample("sheet A", include_bytes!("../../../samples/a.sheet").to_vec()),
         sample("forty junctions", include_bytes!("../../../samples/forty.sheet").to_vec()),
-        sample("60,000 bytes, worst, one pass", at_least_costs(full_size(0))),
-        sample("60,000 bytes, whole, one pass", at_least_costs(full_size(1))),
+        sample("60,000 bytes, worst, one pass", values_at(full_size(0), 100)),
+        sample("60,000 bytes, whole, one pass", values_at(full_size(1), 100)),
         sample("many raises, worst", many_raises(0)),
         sample("many raises, whole", many_raises(1)),
-        sample("1,000-deep chain, one pass", at_least_costs(chain())),
+        sample("1,000-deep chain, one pass", values_at(chain(), 100)),
         sample("1,000-deep chain, blank", chain()),
     ]
 }
 
 /// Park and Miller's numbers.
-struct Draws(u64);
+pub struct Draws(pub u64);
 
 impl Draws {
-    fn below(&mut self, limit: usize) -> usize {
+    pub fn below(&mut self, limit: usize) -> usize {
         self.0 = self.0 * 16_807 % 2_147_483_647;
         self.0 as usize % limit
     }
@@ -36,23 +36,23 @@ fn push(bytes: &mut Vec<u8>, tag: u8, content: &[u8]) {
     bytes.extend(content);
 }
 
-fn head(kind: u8, states: usize) -> Vec<u8> {
+pub fn head(kind: u8, states: usize) -> Vec<u8> {
     let mut bytes = Vec::new();
     let [high, low] = (states as u16).to_be_bytes();
     push(&mut bytes, 1, &[kind, high, low, 0, 0]);
     bytes
 }
 
-fn push_terminal(bytes: &mut Vec<u8>, cost: usize) {
+pub fn push_terminal(bytes: &mut Vec<u8>, cost: usize) {
     let [a, b, c, d] = (cost as u32).to_be_bytes();
     push(bytes, 2, &[a, b, c, d, 0, 0, 0, 0, 0]);
 }
 
-fn push_decision(bytes: &mut Vec<u8>) {
+pub fn push_decision(bytes: &mut Vec<u8>) {
     push(bytes, 3, &[0; 6]);
 }
 
-fn push_action(bytes: &mut Vec<u8>, cost: usize, mut successors: Vec<usize>) {
+pub fn push_action(bytes: &mut Vec<u8>, cost: usize, mut successors: Vec<usize>) {
     successors.sort();
     let mut content = (cost as u32).to_be_bytes().to_vec();
     for successor in successors {
@@ -63,7 +63,7 @@ fn push_action(bytes: &mut Vec<u8>, cost: usize, mut successors: Vec<usize>) {
 
 /// 800 junctions with four checks each and 200 endings. A check leads to one later junction, on worst sheets to two, and else to
 /// endings: 4 findings, and 5 at the first 299 junctions, which makes 60,000 bytes.
-fn full_size(kind: u8) -> Vec<u8> {
+pub fn full_size(kind: u8) -> Vec<u8> {
     const JUNCTIONS: usize = 800;
     const ENDINGS: usize = 200;
     let mut draws = Draws(60_000);
@@ -125,12 +125,12 @@ fn chain() -> Vec<u8> {
     bytes
 }
 
-/// The sheet with every value at its least cost, all open: work settles in one pass, without a raise.
-fn at_least_costs(mut bytes: Vec<u8>) -> Vec<u8> {
+/// The sheet with every value at so many hundredths of its least cost, all open. At 100 work settles in one pass, without a raise.
+pub fn values_at(mut bytes: Vec<u8>, hundredths: u64) -> Vec<u8> {
     let sheet = sweep::read(&bytes).unwrap_or_else(|number| panic!("the sheet is refused {number}"));
     let mut at = 8;
     for cost in sheet.least_costs() {
-        let value = (cost as u32).to_be_bytes();
+        let value = ((cost * hundredths / 100) as u32).to_be_bytes();
         let terminal = bytes[at] == 2;
         let place = if terminal { at + 7 } else { at + 3 };
         bytes[place..place + 4].copy_from_slice(&value);

@@ -1,5 +1,5 @@
--- A result too short, a table too short, and else a call on a table of zeros, whose entries become the host's bytes. A line of code put between two
--- places lengthens the name that is bound for the later one by a `.before`.
+-- A result too short, a table too short, and else a call on a table of zeros, whose entries become the host's bytes. A line of code put
+-- between two places lengthens the name that is bound for the later one by a `.before`.
 use native.Mathlib.Omega.{arith}
 use borrow.Author.Needs.{needs}
 use Rattle.model.specs.Questions.{maxStates}
@@ -26,7 +26,8 @@ returns-2 c =
     let short = told .before .before .before in
     let room = short .before in
     let a = room .before .before .before .before .args in
-    short-table (a .sheet .now) (a .table .now) (a .budget) (a .result .now) (room .if1 .left) (told .before .refusal .result) _ (told .put-answer .ensures)
+    short-table (a .sheet .now) (a .table .now) (a .budget) (a .result .now) (room .if1 .left) (told .before .refusal .result) _
+    (told .put-answer .ensures)
     (short .if2 .taken) (told .before .refusal .ensures)
 
 slice-aggregate-solve-zeroed : tie.Need-slice-aggregate-solve-zeroed
@@ -61,8 +62,10 @@ returns-3 c =
     let long = worked .before .before .before in
     let room = long .before in
     let a = room .before .before .before .before .args in
-    long-table (a .sheet .now) (a .table .now) (a .budget) (a .result .now) (room .if1 .left) (worked .solve-zeroed .result) _ (told .put-answer2 .ensures)
-    maxStates (omega arith) (omega (arith, long .if2 .left)) _ (worked .solve-zeroed .last .1 .0) _ _ (worked .solve-zeroed .ensures) (put .put-table .ensures)
+    long-table (a .sheet .now) (a .table .now) (a .budget) (a .result .now) (room .if1 .left) (worked .solve-zeroed .result) _
+    (told .put-answer2 .ensures)
+    maxStates (omega arith) (omega (arith, long .if2 .left)) _ (worked .solve-zeroed .last .1 .0) _ _ (worked .solve-zeroed .ensures)
+    (put .put-table .ensures)
     (c .outcome-number .ensures)
 
 pub ldfs-solve-spec : {M : Type 1} → statement M

@@ -18,7 +18,8 @@ abbrev μ-loop : tie.MeasureT-loop
 
 -- whatever the first loop began with
 abbrev Inv-loop2 : tie.InvT-loop2
-Inv-loop2 bytes₁ table n i₁ bytes i = (length bytes ≡ length bytes₁) × ((b : List ℕ) → Entered b table n bytes₁ i₁ → Entered b table n bytes i)
+Inv-loop2 bytes₁ table n i₁ bytes i =
+    (length bytes ≡ length bytes₁) × ((b : List ℕ) → Entered b table n bytes₁ i₁ → Entered b table n bytes i)
 
 abbrev μ-loop2 : tie.MeasureT-loop2
 μ-loop2 bytes₁ table n i₁ bytes i = n - i
@@ -49,8 +50,10 @@ loop-again c =
     let l = test .before in
     let st = l .before .before in
     let lt : l .loop .i ≤ maxStates - 1 = omega (arith, test .loop-test .taken) in
-    let more = entered-more (st .args .bytes .now) (st .args .table .now) _ _ _ (l .loop .inv .1) (omega (arith, lt, st .pre)) (omega arith) _ in
-    (omega (arith, lt), more (put .before .entry .ensures .0) _ (c .before .bytes .given) (put .put32 .ensures))
+    let more = entered-more (st .args .bytes .now) (st .args .table .now) _ _ _ (l .loop .inv .1) in (
+      omega (arith, lt),
+      more (omega (arith, lt, st .pre)) (omega arith) _ (put .before .entry .ensures .0) _ (c .before .bytes .given) (put .put32 .ensures),
+    )
 
 loop2-holds : tie.Need-loop2-holds Inv-loop μ-loop Inv-loop2 μ-loop2
 loop2-holds c = (refl, λ b h. h)
@@ -63,7 +66,8 @@ entry-requires-2 c κs = tt
 
 put32-requires-2 : tie.Need-put32-requires-2 Inv-loop μ-loop Inv-loop2 μ-loop2
 put32-requires-2 c κs =
-    let l = c .before .before .before .before in (omega (arith, l .loop2 .inv .0, l .before .before .loop .inv .1 .long), c .entry2 .ensures .1)
+    let l = c .before .before .before .before in
+    (omega (arith, l .loop2 .inv .0, l .before .before .loop .inv .1 .long), c .entry2 .ensures .1)
 
 add-i-2 : tie.Need-add-i-2 Inv-loop μ-loop Inv-loop2 μ-loop2
 add-i-2 c = search needs

@@ -1,5 +1,5 @@
--- The work of the call, and then the start's value and mark. A line of code put between two places lengthens the function that leads from one to the
--- other by a `.before`.
+-- The work of the call, and then the start's value and mark. A line of code put between two places lengthens the function that leads from
+-- one to the other by a `.before`.
 use mathlib.Core.Path.{_≡_, _∙_}
 use native.Mathlib.Omega.{arith}
 use borrow.Author.Needs.{needs}
@@ -58,7 +58,8 @@ returns c =
     let m = c .before in
     let w = work-of m in
     let value = m .before .before .long .ensures .0 ∙ m .before .before .before .value-at .ensures in
-    answers (start-of (place-of w) .args .sheet .now) _ (w .work .ensures) (start-at (place-of w)) value (c .outcome .ensures _ (m .solved-at .ensures) value)
+    answers (start-of (place-of w) .args .sheet .now) _ (w .work .ensures) (start-at (place-of w)) value
+    (c .outcome .ensures _ (m .solved-at .ensures) value)
 
 pub finish-spec : {M : Type 1} → statement M
 finish-spec =

@@ -1,5 +1,5 @@
--- The questions, and then a refusal or the work. A line of code put between two places lengthens the function that leads from one to the other by a
--- `.before`.
+-- The questions, and then a refusal or the work. A line of code put between two places lengthens the function that leads from one to the
+-- other by a `.before`.
 use mathlib.Core.Path.{_≡_, sym, _∙_}
 use borrow.Author.Needs.{needs}
 use lib.ListN.{length}
@@ -19,7 +19,8 @@ abbrev ask-of : tie.After-enum-told → tie.After-ask
 ask-of c = c .before .before .before .before
 
 -- every answer is yes, and the sheet holds bytes
-accepted-at : (c : tie.After-enum-told) → let a = start-of (ask-of c) .args in Accepted ≡ verdict (sheetRefusal (a .sheet .now) (length (a .table .now)))
+accepted-at : (c : tie.After-enum-told) →
+    let a = start-of (ask-of c) .args in Accepted ≡ verdict (sheetRefusal (a .sheet .now) (length (a .table .now)))
 accepted-at c = sym (c .enum-told .given .1) ∙ ask-of c .ask .ensures .0
 
 bytes-at : (c : tie.After-ask) → Bytes (start-of c .args .sheet .now)
@@ -48,7 +49,8 @@ finish-requires c κs =
     let yes = c .before .before .before in
     let a = ask-of yes in
     let budget = start-of a .args .budget in
-    (start-within _ _ budget (accepted-at yes) (bytes-at a) _ (a .ask .ensures .1), workable _ _ budget (accepted-at yes) (bytes-at a) _ (a .ask .ensures .1))
+    let table = a .ask .ensures .1 in
+    (start-within _ _ budget (accepted-at yes) (bytes-at a) _ table, workable _ _ budget (accepted-at yes) (bytes-at a) _ table)
 
 same-length : tie.Need-same-length
 same-length c = search needs
@@ -59,7 +61,8 @@ same-length-2 c = search needs
 returns : tie.Need-returns
 returns c =
     let a = c .before .before .before .before .before .before in
-    refused-by _ _ (start-of a .args .budget) _ (sym (c .before .before .v .given .1) ∙ a .ask .ensures .0) _ (c .refusal .ensures) _ (a .ask .ensures .1)
+    refused-by _ _ (start-of a .args .budget) _ (sym (c .before .before .v .given .1) ∙ a .ask .ensures .0) _ (c .refusal .ensures) _
+    (a .ask .ensures .1)
 
 same-length-3 : tie.Need-same-length-3
 same-length-3 c = search needs

@@ -1,5 +1,6 @@
--- The loop's invariant: the largest and the sum so far, joined with the values of the successors left, are those of all of them. A line of code put
--- into the loop lengthens `loop-of` by a `.before`, one before the loop lengthens `start-of`, and one behind it the two answers at the end.
+-- The loop's invariant: the largest and the sum so far, joined with the values of the successors left, are those of all of them. A line of
+-- code put into the loop lengthens `loop-of` by a `.before`, one before the loop lengthens `start-of`, and one behind it the two answers at
+-- the end.
 use Prim.Native.Nat.{ℕ, _+_, _*_, _-_, _<_, _≤_}
 use mathlib.Core.Path.{_≡_, _∙_}
 use mathlib.Core.List.{List}
@@ -41,7 +42,8 @@ inside c = action-inside (c .args .sheet .now) (c .args .at) (c .pre .fits)
 
 -- a turn adds the value of one successor
 turned : (c : tie.After-larger Inv-loop μ-loop) → let st = start-of (loop-of c) in
-    SumsAt (st .args .sheet .now) (st .args .at) (loop-of c .loop .total + c .before .long .result) (c .larger .result) (loop-of c .loop .j + 1)
+    SumsAt (st .args .sheet .now) (st .args .at) (loop-of c .loop .total + c .before .long .result) (c .larger .result)
+    (loop-of c .loop .j + 1)
 turned c =
     let value = c .before .long .ensures .0 ∙ c .before .before .value-at .ensures in
     let (more, sums) = loop-of c .loop .inv in
@@ -110,7 +112,8 @@ sum-fits c =
     let (more, sums) = loop-of turn .loop .inv in
     let st = start-of (loop-of turn) in
     let top = turned turn in
-    let fit = of-kind-fits (problemOf (st .args .sheet .now) .kind) (turn .larger .result) (loop-of turn .loop .total + turn .before .long .result) in
+    let fit = of-kind-fits (problemOf (st .args .sheet .now) .kind) (turn .larger .result)
+    (loop-of turn .loop .total + turn .before .long .result) in
     omega (arith, fit, c .of-kind .ensures, top .summed, top .largest, more, inside st)
 
 add-cut-off : tie.Need-add-cut-off Inv-loop μ-loop

@@ -1,0 +1,6 @@
+pub mod Actions
+pub mod Deciding
+pub mod Keeping
+pub mod Passing
+pub mod Trying
+pub mod Updates

@@ -1,0 +1,23 @@
+-- The fresh price where it is the least, else all are priced.
+use native.Mathlib.Omega.{arith}
+use borrow.Author.Needs.{needs}
+use Rattle.model.specs.QValue.{ceiling}
+use Rattle.sheet.proofs.Laws.{few-actions}
+use Rattle.search.proofs.Keeping.{keeps-least}
+use Rattle.search.proofs.kept.least_kept.Statement.{statement}
+use Rattle.search.proofs.kept.least_kept.Tie as tie
+
+least-price-requires : tie.Need-least-price-requires
+least-price-requires c κs = search needs
+
+returns : tie.Need-returns
+returns c =
+    let pre = c .before .before .before .before .pre in
+    let d = pre .0 in
+    keeps-least (pre .1 .1) (few-actions (d .within .sheet) _ (d .within .below) (d .tag) .0) (λ a. omega arith) (omega arith)
+
+returns-2 : tie.Need-returns-2
+returns-2 c = search needs
+
+pub least-kept-spec : {M : Type 1} → statement M
+least-kept-spec = tie.close (tie.spec least-price-requires returns returns-2)

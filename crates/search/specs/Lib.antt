@@ -1,0 +1,3 @@
+pub mod Did
+pub mod Keeps
+pub mod Opens

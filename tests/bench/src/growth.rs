@@ -1,0 +1,74 @@
+//! Sheets of about 60,000 bytes that grow in one thing each: the raises that are left to make, the depth, the width.
+
+use crate::sheets::{full_size, head, push_action, push_decision, push_terminal, values_at, Draws, Sample};
+
+pub fn all() -> Vec<Sample> {
+    let sample = |name, bytes| Sample { name, bytes };
+    vec![
+        sample("raises: at 100 % of least costs", values_at(full_size(0), 100)),
+        sample("raises: at 99 %", values_at(full_size(0), 99)),
+        sample("raises: at 90 %", values_at(full_size(0), 90)),
+        sample("raises: at 50 %", values_at(full_size(0), 50)),
+        sample("raises: at 0 %", full_size(0)),
+        sample("depth: 10 layers, one pass", values_at(layers(10), 100)),
+        sample("depth: 100 layers, one pass", values_at(layers(100), 100)),
+        sample("depth: 800 layers, one pass", values_at(layers(800), 100)),
+        sample("depth: 10 layers, blank", layers(10)),
+        sample("depth: 100 layers, blank", layers(100)),
+        sample("depth: 800 layers, blank", layers(800)),
+        sample("width: 2 checks of 2, blank", wide(2, 2)),
+        sample("width: 4 checks of 4, blank", wide(4, 4)),
+        sample("width: 8 checks of 8, blank", wide(8, 8)),
+        sample("width: 16 checks of 16, blank", wide(16, 16)),
+    ]
+}
+
+/// 800 junctions in layers, with four checks each, and 200 endings. A check leads to one junction of the next layer and to three
+/// endings; those of the last layer lead to endings alone.
+fn layers(count: usize) -> Vec<u8> {
+    const JUNCTIONS: usize = 800;
+    const ENDINGS: usize = 200;
+    let breadth = JUNCTIONS / count;
+    let mut draws = Draws(11);
+    let mut bytes = head(0, JUNCTIONS + ENDINGS);
+    for number in 0..JUNCTIONS {
+        push_decision(&mut bytes);
+        let next = (number / breadth + 1) * breadth;
+        for _ in 0..4 {
+            let mut successors: Vec<usize> = (0..4).map(|place| JUNCTIONS + 50 * place + draws.below(50)).collect();
+            if next < JUNCTIONS {
+                successors[0] = next + draws.below(breadth);
+            }
+            push_action(&mut bytes, 1 + draws.below(40), successors);
+        }
+    }
+    for _ in 0..ENDINGS {
+        push_terminal(&mut bytes, draws.below(100));
+    }
+    bytes
+}
+
+/// Junctions with so many checks of so many findings each, as many as 60,000 bytes and 1,024 stages hold, and 64 endings. A check's
+/// first finding is a junction at most eight further on, the others are endings.
+fn wide(checks: usize, findings: usize) -> Vec<u8> {
+    const ENDINGS: usize = 64;
+    let junctions = ((60_000 - 8 - 12 * ENDINGS) / (9 + checks * (7 + 2 * findings))).min(1_024 - ENDINGS);
+    let mut draws = Draws(13);
+    let mut bytes = head(0, junctions + ENDINGS);
+    for number in 0..junctions {
+        push_decision(&mut bytes);
+        for _ in 0..checks {
+            let share = ENDINGS / findings;
+            let mut successors: Vec<usize> = (0..findings).map(|place| junctions + share * place + draws.below(share)).collect();
+            let later = number + 1 + draws.below(8);
+            if later < junctions {
+                successors[0] = later;
+            }
+            push_action(&mut bytes, 1 + draws.below(40), successors);
+        }
+    }
+    for _ in 0..ENDINGS {
+        push_terminal(&mut bytes, draws.below(100));
+    }
+    bytes
+}
