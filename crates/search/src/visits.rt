@@ -202,7 +202,7 @@ fn try_action(
 }
 
 // A visit to an open decision: its actions in order, one whose price is above the value skipped. An action that is abandoned is priced at
-// once.
+// once. The answer of a try is made anew, not handed on: that keeps it in registers.
 fn visit_decision(
     sheet: &mut [u8],
     table: &[u32],
@@ -239,7 +239,7 @@ fn visit_decision(
         let way = v.way;
         match way {
             Way::Success => {
-                return v;
+                return ended(Way::Success, spent);
             }
             Way::Failure => {
                 let y = price(sheet, table, a);
@@ -247,7 +247,7 @@ fn visit_decision(
                 continue;
             }
             Way::Halt => {
-                return v;
+                return ended(Way::Halt, spent);
             }
         }
     }

@@ -75,6 +75,12 @@ module _ (t : ℕ) where
   abbrev After-visit : Type 0
   After-visit = lts.After-visit calls given reads.Post Inv-loop μ-loop
 
+  abbrev After-told : Type 0
+  After-told = lts.After-enum-told calls given reads.Post Inv-loop μ-loop
+
+  abbrev After-price : Type 0
+  After-price = lts.After-price calls given reads.Post Inv-loop μ-loop
+
   -- from place to place
   abbrev start-of : At-loop → Start
   start-of c = c .before .before .before .before .before
@@ -84,6 +90,12 @@ module _ (t : ℕ) where
 
   abbrev place-of : After-visit → After-place
   place-of c = c .before .before
+
+  abbrev told-of : After-price → After-told
+  told-of c = c .before .before .before
+
+  abbrev visit-of : After-told → After-visit
+  visit-of c = c .before .before .before .before
 
   -- the action that is tried
   abbrev tried : Start → Action
@@ -132,9 +144,8 @@ module _ (t : ℕ) where
   onwards : (c : After-visit) → let l = loop-of (place-of c) in let st = start-of l in let x = st .args in
       Trying (x .table .now) (problemOf (x .sheet .now)) (x .budget) (x .d .state) (tried st) (x .sheet .now) (x .raises)
       (c .visit .last .0) (c .visit .result .raises) (nth (x .a) (l .loop .o) + 1) →
-      Inv-loop (x .sheet .now) (x .table .now) (x .d) (x .n) (x .a) (x .raises) (x .budget) (l .before .next-action .result) (x .raises)
-      (x .a + 7)
-      (c .visit .last .0) (c .visit .result .raises) (l .loop .o + 2)
+      Inv-loop (x .sheet .now) (x .table .now) (x .d) (x .n) (x .a) (x .raises) (x .budget)
+      (l .before .next-action .result) (x .raises) (x .a + 7) (c .visit .last .0) (c .visit .result .raises) (l .loop .o + 2)
   onwards c h =
       let l = loop-of (place-of c) in
       let a = start-of l .args .a in
@@ -155,8 +166,7 @@ module _ (t : ℕ) where
   next-action-requires c κs = let b = begun-at (c .before .before .before) in turn-fits (b .turn) (b .sheet)
 
   add-o : lts.Need-add-o calls given reads.Post Inv-loop μ-loop
-  add-o c =
-      search needs
+  add-o c = search needs
 
   loop-holds : lts.Need-loop-holds calls given reads.Post Inv-loop μ-loop
   loop-holds c =
@@ -174,8 +184,7 @@ module _ (t : ℕ) where
   place-requires c κs = search needs
 
   add-o-2 : lts.Need-add-o-2 calls given reads.Post Inv-loop μ-loop
-  add-o-2 c =
-      search needs
+  add-o-2 c = search needs
 
   visit-requires : lts.Need-visit-requires calls given reads.Post Inv-loop μ-loop
   visit-requires c κs =
@@ -196,7 +205,7 @@ module _ (t : ℕ) where
 
   loop-again : lts.Need-loop-again calls given reads.Post Inv-loop μ-loop
   loop-again c =
-      let v = c .before .before .before .before .before in
+      let v = visit-of (c .before) in
       let p = place-of v in
       let s = later-at p in
       onwards v (passes-quietly (begun-at (start-of (loop-of p))) (loop-of p .loop .inv .2) (s .0) (s .1) (did-at v)
@@ -204,7 +213,7 @@ module _ (t : ℕ) where
 
   price-requires : lts.Need-price-requires calls given reads.Post Inv-loop μ-loop
   price-requires c κs =
-      let v = c .before .before .before .before .before .before in
+      let v = visit-of (c .before .before) in
       turn-priced (begun-at (start-of (loop-of (place-of v))) .turn) (did-at v .sheet)
 
   loop-less-2 : lts.Need-loop-less-2 calls given reads.Post Inv-loop μ-loop
@@ -212,29 +221,29 @@ module _ (t : ℕ) where
 
   loop-again-2 : lts.Need-loop-again-2 calls given reads.Post Inv-loop μ-loop
   loop-again-2 c =
-      let v = c .before .before .before .before .before .before .before .before .before .before in
+      let anew = c .before .before .before in
+      let v = visit-of (told-of anew) in
       let p = place-of v in
       let s = later-at p in
-      let told = c .before .before .before .before .before .before .enum-told .given .1 in
-      onwards v (passes-priced (begun-at (start-of (loop-of p))) (loop-of p .loop .inv .2) (s .0) (s .1) (did-at v) told
-      (c .before .before .before .price .ensures .0) (omega arith))
+      onwards v (passes-priced (begun-at (start-of (loop-of p))) (loop-of p .loop .inv .2) (s .0) (s .1) (did-at v)
+      (told-of anew .enum-told .given .1) (anew .price .ensures .0) (omega arith))
 
   ended-requires : lts.Need-ended-requires calls given reads.Post Inv-loop μ-loop
   ended-requires c κs = search needs
 
   same-length : lts.Need-same-length calls given reads.Post Inv-loop μ-loop
   same-length c =
-      let v = c .before .before .before .before .before .before .before .before .before .before .before in
+      let v = visit-of (told-of (c .before .before .before .before)) in
       sheet-length (begun-at (start-of (loop-of (place-of v))) .sheet) (did-at v .sheet)
 
   returns : lts.Need-returns calls given reads.Post Inv-loop μ-loop
   returns c =
-      let v = c .before .before .before .before .before .before .before .before .before .before .before in
+      let anew = c .before .before .before .before in
+      let v = visit-of (told-of anew) in
       let p = place-of v in
       let s = later-at p in
-      let told = c .before .before .before .before .before .before .before .enum-told .given .1 in
-      dear (begun-at (start-of (loop-of p))) (loop-of p .loop .inv .2) (s .0) (s .1) (did-at v) told
-      (c .before .before .before .before .price .ensures .0) (c .before .if2 .left) (c .ended .ensures)
+      dear (begun-at (start-of (loop-of p))) (loop-of p .loop .inv .2) (s .0) (s .1) (did-at v)
+      (told-of anew .enum-told .given .1) (anew .price .ensures .0) (c .before .if2 .left) (c .ended .ensures)
 
   enum-told-2 : lts.Need-enum-told-2 calls given reads.Post Inv-loop μ-loop
   enum-told-2 c = search needs

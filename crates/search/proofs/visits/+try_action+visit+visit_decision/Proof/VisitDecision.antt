@@ -1,7 +1,7 @@
 -- `visit_decision`: the loop carries what `Acting` says. The lemmas typed by a place say it of that place; a line of code put between two
 -- places lengthens the function that leads from one to the other by a `.before`.
 use Prim.Native.Nat.{ℕ, _+_, _*_, _-_, _<_, _≤_}
-use mathlib.Core.Path.{_≡_, refl, _∙_, sym}
+use mathlib.Core.Path.{_≡_, _∙_, sym}
 use native.Mathlib.Omega.{arith}
 use borrow.Author.Needs.{needs}
 use borrow.Fn.Kinds.{In}
@@ -24,6 +24,7 @@ use Rattle.sheet.proofs.pricing.price.Reads as price-reads
 use Rattle.search.proofs.kept.abandoned.Reads as abandoned-reads
 use Rattle.search.proofs.kept.none_kept.Reads as none-kept-reads
 use Rattle.search.proofs.kept.skipped.Reads as skipped-reads
+use Rattle.search.proofs.visits.ended.Reads as ended-reads
 use Rattle.search.proofs.visits.fail.Reads as fail-reads
 use Rattle.search.proofs.visits.try_action.Reads as try-action
 use Rattle.search.proofs.visits.visit_decision.Reads as reads
@@ -63,6 +64,8 @@ module _ (t : ℕ) where
     skipped-reads.Learnt,
     try-action-below t,
     try-action.Post,
+    ended-reads.Asked,
+    ended-reads.Learnt,
     abandoned-reads.Asked,
     abandoned-reads.Learnt,
     fail-reads.Asked,
@@ -204,18 +207,19 @@ module _ (t : ℕ) where
   enum-told : lts.Need-enum-told calls given reads.Post Inv-loop μ-loop
   enum-told c = search needs
 
+  ended-requires : lts.Need-ended-requires calls given reads.Post Inv-loop μ-loop
+  ended-requires c κs = search needs
+
   same-length : lts.Need-same-length calls given reads.Post Inv-loop μ-loop
-  same-length c =
-      let v = c .before .before .before .before in sheet-length (opened-of (loop-at (here-of (price-of v))) .sheet) (left-at v)
+  same-length c = let v = c .before .before .before .before .before in sheet-length (opened-of (loop-at (here-of (price-of v))) .sheet) (left-at v)
 
   returns : lts.Need-returns calls given reads.Post Inv-loop μ-loop
   returns c =
-      let v = c .before .before .before .before in
+      let v = c .before .before .before .before .before in
       let x = price-of v in
       let l = loop-at (here-of x) in
-      let told = c .enum-told .given .1 in
       succeeds (opened-of l) (l .loop .inv) (turn-at (here-of x)) (x .price .ensures .0) (v .before .before .if2 .left)
-      (v .try-action .ensures) told (told, refl)
+      (v .try-action .ensures) (c .before .enum-told .given .1) (c .ended .ensures)
 
   enum-told-2 : lts.Need-enum-told-2 calls given reads.Post Inv-loop μ-loop
   enum-told-2 c = search needs
@@ -242,18 +246,20 @@ module _ (t : ℕ) where
   enum-told-3 : lts.Need-enum-told-3 calls given reads.Post Inv-loop μ-loop
   enum-told-3 c = search needs
 
+  ended-requires-2 : lts.Need-ended-requires-2 calls given reads.Post Inv-loop μ-loop
+  ended-requires-2 c κs = search needs
+
   same-length-2 : lts.Need-same-length-2 calls given reads.Post Inv-loop μ-loop
   same-length-2 c =
-      let v = c .before .before .before .before in sheet-length (opened-of (loop-at (here-of (price-of v))) .sheet) (left-at v)
+      let v = c .before .before .before .before .before in sheet-length (opened-of (loop-at (here-of (price-of v))) .sheet) (left-at v)
 
   returns-2 : lts.Need-returns-2 calls given reads.Post Inv-loop μ-loop
   returns-2 c =
-      let v = c .before .before .before .before in
+      let v = c .before .before .before .before .before in
       let x = price-of v in
       let l = loop-at (here-of x) in
-      let told = c .enum-told3 .given .1 in
       halts (opened-of l) (l .loop .inv) (turn-at (here-of x)) (x .price .ensures .0) (v .before .before .if2 .left)
-      (v .try-action .ensures) told (told, refl)
+      (v .try-action .ensures) (c .before .enum-told3 .given .1) (c .ended2 .ensures)
 
   fail-requires : lts.Need-fail-requires calls given reads.Post Inv-loop μ-loop
   fail-requires c κs =
@@ -296,6 +302,7 @@ module _ (t : ℕ) where
       loop-again
       try-action-requires
       enum-told
+      ended-requires
       same-length
       returns
       enum-told-2
@@ -304,6 +311,7 @@ module _ (t : ℕ) where
       loop-less-2
       loop-again-2
       enum-told-3
+      ended-requires-2
       same-length-2
       returns-2
       fail-requires
