@@ -11,7 +11,7 @@ use Rattle.model.specs.declared.Answer.{Answer}
 use Rattle.model.specs.declared.Outcome.{Outcome}
 use Rattle.model.specs.declared.Outcome.the-variants.{Settled, Over, Stopped}
 use Rattle.model.specs.Tests.{fork}
-use Rattle.model.specs.Problem.{Problem, Cell, states, cellOf, valueOf, solved}
+use Rattle.model.specs.Problem.{Cell, states, cellOf, valueOf, solved}
 use Rattle.model.specs.Format.{Bytes, be16, offset, write}
 use Rattle.model.specs.Read.{problemOf, cellsOf}
 use Rattle.model.specs.QValue.{ceiling}
@@ -49,7 +49,8 @@ search-of cells Success r = refl
 search-of cells Failure r = refl
 search-of cells Halt r = refl
 
-module _ (s : List ℕ) (budget : ℕ) {t s′ : List ℕ} {w : PassesMade} (d : DidPasses t (problemOf s) s′ w (work (problemOf s) (cellsOf s) budget)) where
+module _ (s : List ℕ) (budget : ℕ) {t s′ : List ℕ} {w : PassesMade}
+    (d : DidPasses t (problemOf s) s′ w (work (problemOf s) (cellsOf s) budget)) where
   cells-left : cellsAfter (work (problemOf s) (cellsOf s) budget) ≡ cellsOf s′
   cells-left = rw (← d .said) (ap (λ (v : Search). v .cells) (search-of (cellsOf s′) (w .way) (w .raises)))
 
@@ -92,7 +93,8 @@ unfolding firstNo
 refused-more n [] more k h = absurd (omega arith)
 refused-more n (ask ∷ asked) more k h = go (ask tt) refl (refused-more (suc n) asked more k)
   where
-    go : (b : Bool) → ask tt ≡ b → (firstNo (suc n) asked ≡ suc k → firstNo (suc n) (asked ++ more) ≡ suc k) → firstNo n ((ask ∷ asked) ++ more) ≡ suc k
+    go : (b : Bool) → ask tt ≡ b → (firstNo (suc n) asked ≡ suc k → firstNo (suc n) (asked ++ more) ≡ suc k) →
+        firstNo n ((ask ∷ asked) ++ more) ≡ suc k
     go true e ih = rw e (ih (rw e at h))
     go false e ih = rw e (rw e at h)
 

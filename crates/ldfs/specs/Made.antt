@@ -29,7 +29,8 @@ Filled s t budget r s′ t′ =
 
 -- `solve`'s contract, likewise
 abbrev pub Solved : List ℕ → List ℕ → ℕ → Answer → List ℕ → List ℕ → Type 0
-Solved s t budget r s′ t′ = (r ≡ answerTo s (length t) budget) × ((s′ ≡ bytesAfter s (length t) budget) × (t′ ≡ tableAfter s t budget))
+Solved s t budget r s′ t′ =
+    (r ≡ answerTo s (length t) budget) × ((s′ ≡ bytesAfter s (length t) budget) × (t′ ≡ tableAfter s t budget))
 
 -- calls on the bytes s, with any tables and budgets, each on the bytes that the one before it left
 pub data SolvedAll : List ℕ → List Call → Type 0 where

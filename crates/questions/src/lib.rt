@@ -3,8 +3,8 @@ mod stages; // stages.rt: question 4
 pub mod states; // states.rt: questions 5 to 8
 
 ghost use mathlib.Core.Path.{_≡_};
-ghost use mathlib.Core.List.{List, _++_};
-ghost use Prim.Native.Nat.{ℕ, _-_, _<_, _≤_};
+ghost use mathlib.Core.List.{_++_};
+ghost use Prim.Native.Nat.{_-_, _<_, _≤_};
 ghost use lib.ListN.{length, take, replicate};
 ghost use Rattle.model.specs.Problem.{states};
 ghost use Rattle.model.specs.Read.{problemOf, cellsOf};

@@ -1,8 +1,8 @@
 // Question 4: are the stages in place? The index table is filled on the way.
 ghost use mathlib.Core.Path.{_≡_};
-ghost use mathlib.Core.Bool.{Bool, true};
-ghost use mathlib.Core.List.{List, _++_};
-ghost use Prim.Native.Nat.{ℕ, _+_, _<_, _≤_};
+ghost use mathlib.Core.Bool.{true};
+ghost use mathlib.Core.List.{_++_};
+ghost use Prim.Native.Nat.{_+_, _<_, _≤_};
 ghost use lib.ListN.{length, drop};
 ghost use Rattle.model.specs.Format.{be16, offsetsFrom};
 ghost use Rattle.model.specs.Read.{terminalFits, headerFits, nodesGood, nodesRead};

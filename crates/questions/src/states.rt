@@ -1,14 +1,13 @@
 // Questions 5 to 8, put to each state of a sheet that is in place, one question after the other.
 ghost use mathlib.Core.Path.{_≡_};
-ghost use mathlib.Core.Bool.{Bool, true};
-ghost use mathlib.Core.List.{List};
-ghost use Prim.Native.Nat.{ℕ, _<_, _≤_};
+ghost use mathlib.Core.Bool.{true};
+ghost use Prim.Native.Nat.{_<_, _≤_};
 ghost use lib.ListN.{length, drop};
 ghost use Rattle.model.specs.Tests.{every};
 ghost use Rattle.model.specs.Problem.{nodeAt, cellOf, states};
 ghost use Rattle.model.specs.Format.{actionsOf, actionOffset};
 ghost use Rattle.model.specs.Read.{problemOf, cellsOf, actionFits, actionRead};
-ghost use Rattle.model.specs.Questions.{ascending, successorsInOrder, valueUnder, allSolved, passedBy, markEarned, question6};
+ghost use Rattle.model.specs.Questions.{ascending, successorsInOrder, valueUnder, allSolved, markEarned, question6};
 ghost use Rattle.sheet.specs.Sheet.{Within, Decision, Priced};
 ghost use Rattle.questions.specs.Put.{rangesAt, countInRange, ChosenExists, Before, passesAt};
 use model::CEILING;

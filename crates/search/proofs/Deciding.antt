@@ -12,7 +12,7 @@ use Rattle.model.specs.Format.{decisionTag, actionTag, tagOf, valueOffset, acti
 use Rattle.model.specs.Read.{problemOf, cellsOf, actionRead}
 use Rattle.model.specs.QValue.{q, least}
 use Rattle.model.specs.Ldfs.{Search, Visit, failure, valueAt, solvedAt, priceAt, update}
-use Rattle.sheet.specs.Sheet.{Sheet, Decision}
+use Rattle.sheet.specs.Sheet.{Sheet}
 use Rattle.sheet.proofs.Laws.{problem-is, within, is-decision, actionsAt, action-stands, action-ends}
 use Rattle.theory.specs.Consistent.{WellFormed}
 use Rattle.theory.proofs.QValueLaws.{q-mono}

@@ -28,7 +28,8 @@ pub record Passing (t : List ℕ) (p : Problem) (budget : ℕ) (s₀ s : List �
   pub few : n ≤ r
   pub run : work p (cellsOf s₀) budget ≡ passesFrom p budget n (reached s r)
 
-pub sets-out : {t s : List ℕ} {p : Problem} {budget : ℕ} → Sheet s t p (cellsOf s) → WellFormed p → Consistent p (cellsOf s) → Passing t p budget s s 0 0
+pub sets-out : {t s : List ℕ} {p : Problem} {budget : ℕ} → Sheet s t p (cellsOf s) → WellFormed p →
+    Consistent p (cellsOf s) → Passing t p budget s s 0 0
 unfolding work
 sets-out {budget} h wf cs = record {
   sheet = h;
@@ -39,29 +40,36 @@ sets-out {budget} h wf cs = record {
 }
 
 -- raises stay far below what 64 bits hold
-pub bounded : {t : List ℕ} {p : Problem} {budget : ℕ} {s₀ s : List ℕ} {n r : ℕ} → Passing t p budget s₀ s n r → n < 18446744073709551615
+pub bounded : {t : List ℕ} {p : Problem} {budget : ℕ} {s₀ s : List ℕ} {n r : ℕ} →
+    Passing t p budget s₀ s n r → n < 18446744073709551615
 unfolding ceiling
-bounded {p} {budget} {s₀} {s} {r} l = omega (arith, l .few, l .sheet .shaped .most, leads-bounded p budget (p .start) (reached s₀ 0) (reached s r) refl (l .leads))
+bounded {p} {budget} {s₀} {s} {r} l =
+    let few = leads-bounded p budget (p .start) (reached s₀ 0) (reached s r) refl (l .leads) in
+    omega (arith, l .few, l .sheet .shaped .most, few)
 
 -- one more pass
 pub record Passed (t : List ℕ) (p : Problem) (budget : ℕ) (s₀ s : List ℕ) (n r : ℕ) (s′ : List ℕ) (v : Visited) : Type 0 where
   pub passing : Passing t p budget s₀ s n r
   pub visited : Did t p s′ v (visiting p budget (p .start) (reached s r))
 
-module _ {t : List ℕ} {p : Problem} {budget : ℕ} {s₀ s : List ℕ} {n r : ℕ} {s′ : List ℕ} {v : Visited} (g : Passed t p budget s₀ s n r s′ v) where
+module _ {t : List ℕ} {p : Problem} {budget : ℕ} {s₀ s : List ℕ} {n r : ℕ} {s′ : List ℕ} {v : Visited}
+    (g : Passed t p budget s₀ s n r s′ v) where
   budgeted : n ≤ budget
   budgeted = omega (arith, g .passing .few, g .passing .leads .ready .within)
 
   went : (way : Way) → v .way ≡ way → visiting p budget (p .start) (reached s r) ≡ visitOf (cellsOf s′) way (v .raises)
   went = ended (g .passing .formed) (g .passing .formed .starts) (g .passing .leads .ready) (g .visited)
 
-  pub succeeds : v .way ≡ Success → DidPasses t p s′ (record { way = Success; begun = n + 1; raises = v .raises }) (work p (cellsOf s₀) budget)
+  pub succeeds : v .way ≡ Success →
+      DidPasses t p s′ (record { way = Success; begun = n + 1; raises = v .raises }) (work p (cellsOf s₀) budget)
   succeeds e = record {
     sheet = g .visited .sheet;
-    said = sym (g .passing .run ∙ rw add-one (pass-succeeds p budget n (reached s r) (reached s′ (v .raises)) budgeted (went Success e)));
+    said =
+        sym (g .passing .run ∙ rw add-one (pass-succeeds p budget n (reached s r) (reached s′ (v .raises)) budgeted (went Success e)));
   }
 
-  pub halts : v .way ≡ Halt → DidPasses t p s′ (record { way = Halt; begun = n + 1; raises = v .raises }) (work p (cellsOf s₀) budget)
+  pub halts : v .way ≡ Halt →
+      DidPasses t p s′ (record { way = Halt; begun = n + 1; raises = v .raises }) (work p (cellsOf s₀) budget)
   halts e = record {
     sheet = g .visited .sheet;
     said = sym (g .passing .run ∙ rw add-one (pass-halts p budget n (reached s r) (reached s′ (v .raises)) budgeted (went Halt e)));

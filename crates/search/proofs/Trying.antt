@@ -36,8 +36,8 @@ pub back : {s s′ t : List ℕ} {p : Problem} {cells cells′ : List Cell} → 
 back h g = rw (problem-is h) at g
 
 -- how a visit to f ended, by the way it says
-module _ {s t : List ℕ} {p : Problem} {v : Visited} {budget f : ℕ} {w : Search} (wf : WellFormed p) (state : f < states p) (ready : Ready p budget w)
-    (d : Did t p s v (visiting p budget f w)) (way : Way) (e : v .way ≡ way) where
+module _ {s t : List ℕ} {p : Problem} {v : Visited} {budget f : ℕ} {w : Search} (wf : WellFormed p) (state : f < states p)
+    (ready : Ready p budget w) (d : Did t p s v (visiting p budget f w)) (way : Way) (e : v .way ≡ way) where
   pub ended : visiting p budget f w ≡ visitOf (cellsOf s) way (v .raises)
   ended = sym (d .said) ∙ (rw e)
 
@@ -57,11 +57,13 @@ pub record Begun (t : List ℕ) (p : Problem) (budget i n o value : ℕ) (s : Li
   pub fair : priceAt p (reached s r) (actionAt (actionsAt p i) n) ≤ value
 
 -- the loop over the successors of action a has come to successor j, with the bytes s and r raises
-pub record Trying (t : List ℕ) (p : Problem) (budget i : ℕ) (a : Action) (s₀ : List ℕ) (r₀ : ℕ) (s : List ℕ) (r j : ℕ) : Type 0 where
+pub record Trying (t : List ℕ) (p : Problem) (budget i : ℕ) (a : Action) (s₀ : List ℕ) (r₀ : ℕ) (s : List ℕ)
+    (r j : ℕ) : Type 0 where
   pub sheet : Sheet s t p (cellsOf s)
   pub leads : Leads p budget (suc i) (reached s₀ r₀) (reached s r)
   pub fair : priceAt p (reached s r) a ≤ valueAt (reached s r) i
-  pub run : successorsFrom p budget (visiting p budget) i a 0 (reached s₀ r₀) ≡ successorsFrom p budget (visiting p budget) i a j (reached s r)
+  pub run : successorsFrom p budget (visiting p budget) i a 0 (reached s₀ r₀) ≡
+      successorsFrom p budget (visiting p budget) i a j (reached s r)
 
 module _ {t : List ℕ} {p : Problem} {budget i n o value : ℕ} {s₀ : List ℕ} {r₀ : ℕ}
     (b : Begun t p budget i n o value s₀ r₀) where

@@ -29,8 +29,9 @@ did h e is = record { sheet = named h; said = rw (is .0, is .1, cells-are h) e }
 pub also-said : {s t : List ℕ} {p : Problem} {v : Visited} {o o′ : Visit} → Did t p s v o → o ≡ o′ → Did t p s v o′
 also-said d e = record { sheet = d .sheet; said = d .said ∙ e }
 
-stored : {s t : List ℕ} {p : Problem} {cells : List Cell} {done : Bool} {r : ℕ} {o : (Search → Visit) → Visit} → Sheet s t p cells →
-    ((next : Search → Visit) → afterUpdate done (search cells r) next ≡ o next) → Stored t p s (record { done = done; raises = r }) o
+stored : {s t : List ℕ} {p : Problem} {cells : List Cell} {done : Bool} {r : ℕ} {o : (Search → Visit) → Visit} →
+    Sheet s t p cells → ((next : Search → Visit) → afterUpdate done (search cells r) next ≡ o next) →
+    Stored t p s (record { done = done; raises = r }) o
 stored h e = record { sheet = named h; said = rw (cells-are h) e }
 
 abbrev updated : List ℕ → ℕ → ℕ → ℕ → ℕ → (Search → Visit) → Visit
@@ -67,7 +68,8 @@ pub decision-marked : {s t : List ℕ} {p : Problem} {cells : List Cell} (i n : 
 decision-marked i n h lt tag place e = rw (e, place) (with-decision-solved h i lt tag n)
 
 -- what follows an update, by whether the budget had room for it
-module _ {s t : List ℕ} {p : Problem} {u : Updated} {o : (Search → Visit) → Visit} (d : Stored t p s u o) (next : Search → Visit) where
+module _ {s t : List ℕ} {p : Problem} {u : Updated} {o : (Search → Visit) → Visit} (d : Stored t p s u o)
+    (next : Search → Visit) where
   pub went-on : u .done ≡ true → next (search (cellsOf s) (u .raises)) ≡ o next
   went-on e = (rw e) ∙ d .said next
 

@@ -1,6 +1,6 @@
 // The least price of a decision's actions, and what is kept of their prices so that it is seldom worked out again.
 ghost use mathlib.Core.Path.{_≡_};
-ghost use Prim.Native.Nat.{ℕ, min};
+ghost use Prim.Native.Nat.{min};
 ghost use lib.ListN.{length};
 ghost use Rattle.model.specs.Problem.{nodeAt, valueOf};
 ghost use Rattle.model.specs.Format.{actionsOf};

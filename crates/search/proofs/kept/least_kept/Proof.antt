@@ -1,7 +1,6 @@
 -- The fresh price where it is the least, else all are priced.
 use native.Mathlib.Omega.{arith}
 use borrow.Author.Needs.{needs}
-use Rattle.model.specs.QValue.{ceiling}
 use Rattle.sheet.proofs.Laws.{few-actions}
 use Rattle.search.proofs.Keeping.{keeps-least}
 use Rattle.search.proofs.kept.least_kept.Statement.{statement}

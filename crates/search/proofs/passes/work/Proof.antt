@@ -1,7 +1,6 @@
 -- The loop carries what `Passing` says. The measure is what is left of the budget: a pass that fails has raised something. A line of code
 -- put between two places lengthens the function that leads from one to the other by a `.before`.
 use Prim.Native.Nat.{_-_}
-use mathlib.Core.Path.{_≡_}
 use native.Mathlib.Omega.{arith}
 use borrow.Author.Needs.{needs}
 use Rattle.model.specs.Read.{problemOf}

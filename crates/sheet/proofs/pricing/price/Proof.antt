@@ -10,7 +10,6 @@ use lib.ListN.{length, drop}
 use Rattle.model.specs.Problem.{valueOf}
 use Rattle.model.specs.Read.{problemOf, cellsOf, actionRead}
 use Rattle.model.specs.QValue.{joined}
-use Rattle.sheet.specs.Sheet.{ofKind}
 use Rattle.sheet.proofs.Joining.{of-kind-fits, Sums, sums-none, sums-more, sums-all}
 use Rattle.sheet.proofs.Laws.{action-inside, some-successor, head-room}
 use Rattle.sheet.proofs.pricing.price.Statement.{statement}

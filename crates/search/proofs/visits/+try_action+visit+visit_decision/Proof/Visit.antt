@@ -1,5 +1,5 @@
 -- `visit`: a settled state, a terminal, a decision. A line of code put before the second test lengthens `start-of` by a `.before`.
-use Prim.Native.Nat.{ℕ, _+_, _*_, _-_, _<_}
+use Prim.Native.Nat.{ℕ, _-_}
 use mathlib.Core.Path.{_≡_, _∙_, sym}
 use mathlib.Core.Bool.{false}
 use native.Mathlib.Omega.{arith}
@@ -7,7 +7,7 @@ use borrow.Author.Needs.{needs}
 use borrow.Author.Tests.{eqb-true, eqb-false}
 use borrow.Fn.Kinds.{In}
 use Rattle.model.specs.Problem.{cellOf, solved}
-use Rattle.model.specs.Read.{problemOf, cellsOf}
+use Rattle.model.specs.Read.{cellsOf}
 use Rattle.sheet.specs.Sheet.{Terminal, Decision}
 use Rattle.sheet.proofs.Laws.{sheet-length, is-terminal, not-terminal}
 use Rattle.theory.proofs.Turns.{visit-solved, visit-terminal}

@@ -1,12 +1,11 @@
 -- `visit_decision`: the loop carries what `Acting` says. The lemmas typed by a place say it of that place; a line of code put between two
 -- places lengthens the function that leads from one to the other by a `.before`.
-use Prim.Native.Nat.{ℕ, _+_, _*_, _-_, _<_, _≤_}
-use mathlib.Core.Path.{_≡_, _∙_, sym}
+use Prim.Native.Nat.{ℕ, _-_}
+use mathlib.Core.Path.{_∙_, sym}
 use native.Mathlib.Omega.{arith}
 use borrow.Author.Needs.{needs}
 use borrow.Fn.Kinds.{In}
 use lib.ListN.{length}
-use Rattle.model.specs.Problem.{states}
 use Rattle.model.specs.Read.{problemOf, cellsOf}
 use Rattle.sheet.specs.Sheet.{Sheet}
 use Rattle.sheet.proofs.Laws.{problem-is, sheet-length, actionsAt}
@@ -211,7 +210,8 @@ module _ (t : ℕ) where
   ended-requires c κs = search needs
 
   same-length : lts.Need-same-length calls given reads.Post Inv-loop μ-loop
-  same-length c = let v = c .before .before .before .before .before in sheet-length (opened-of (loop-at (here-of (price-of v))) .sheet) (left-at v)
+  same-length c =
+      let v = c .before .before .before .before .before in sheet-length (opened-of (loop-at (here-of (price-of v))) .sheet) (left-at v)
 
   returns : lts.Need-returns calls given reads.Post Inv-loop μ-loop
   returns c =
