@@ -9,9 +9,11 @@ use borrow.Author.Tests.{ltb-true, leb-true, eqb-true, lt-ltb, le-leb, eq-eqb}
 use lib.Dec.{leb}
 use lib.ListN.{length, List·getD-eq-default}
 use Rattle.model.specs.Tests.{fork, also-true, true-also, all-true, true-all, every-true, true-every}
-use Rattle.model.specs.Problem.{Action, action, Node, terminal, decision, Problem, Cell, cell, states, nodeAt, actionAt, cellOf, solved, _∈_, here, there}
+use Rattle.model.specs.Problem.{Action, action, Node, terminal, decision, Problem, Cell, cell, states, nodeAt, actionAt}
+use Rattle.model.specs.Problem.{cellOf, solved, _∈_, here, there}
 use Rattle.model.specs.QValue.{ceiling}
-use Rattle.model.specs.Questions.{maxCost, costsInRange, chosenInRange, cellInRange, question5, successorsInOrder, question6, valueUnder, question7, allSolved, passedBy, markEarned, question8}
+use Rattle.model.specs.Questions.{maxCost, costsInRange, chosenInRange, cellInRange, question5, successorsInOrder, question6}
+use Rattle.model.specs.Questions.{valueUnder, question7, allSolved, passedBy, markEarned, question8}
 use Rattle.layout.proofs.Shapes.{node-shaped, ascending-in}
 use Rattle.layout.specs.Shape.{NodeShaped, ChosenShaped}
 use Rattle.theory.specs.Consistent.{WellFormed, Sound, Consistent}
@@ -64,9 +66,12 @@ module _ (p : Problem) (cells : List Cell) (h : Asked p cells) where
       cap s cost e (inl l) = omega (arith, leb-true cost maxCost (rw e at (five s l .0)))
       cap s cost e (inr le) = let z : cost ≡ 0 = cc (List·getD-eq-default (p .nodes) (terminal 0) {n = s} le) in omega arith
 
-      ahead : (s i t : ℕ) (acts : List Action) → nodeAt p s ≡ decision acts → t ∈ actionAt acts i .successors → (i < length acts) ⊎ (length acts ≤ i) → (s < t) × (t < states p)
-      ahead s i t acts e m (inl l) = ascending-in s (states p) (actionAt acts i .successors) (every-true (length acts) _ (rw e at (six s (is-state s acts e))) i l) t m
-      ahead s i t acts e m (inr le) = absurd (none (subst (λ (a : Action). t ∈ a .successors) (List·getD-eq-default acts (action 0 []) {n = i} le) m))
+      ahead : (s i t : ℕ) (acts : List Action) → nodeAt p s ≡ decision acts → t ∈ actionAt acts i .successors →
+          (i < length acts) ⊎ (length acts ≤ i) → (s < t) × (t < states p)
+      ahead s i t acts e m (inl l) =
+          ascending-in s (states p) (actionAt acts i .successors) (every-true (length acts) _ (rw e at (six s (is-state s acts e))) i l) t m
+      ahead s i t acts e m (inr le) =
+          absurd (none (subst (λ (a : Action). t ∈ a .successors) (List·getD-eq-default acts (action 0 []) {n = i} le) m))
         where
           none : t ∈ [] → ⊥
           none m = elim m [ ]
@@ -85,10 +90,15 @@ module _ (p : Problem) (cells : List Cell) (h : Asked p cells) where
         under-q = λ acts i e l. leb-true _ _ (every-true (length acts) _ (rw e at seven) i l);
         at-cost = λ cost e sol. eqb-true _ _ (rw (sol, e) at eight);
         settles = λ acts e sol. let b = all-true _ (rw (sol, e) at eight) in
-            record { exists = ltb-true _ _ (rw (e, sol) at (range .1 .1 .0)); priced = eqb-true _ _ (b .0); below = all-solved cells _ (b .1 .0) };
+            record {
+              exists = ltb-true _ _ (rw (e, sol) at (range .1 .1 .0));
+              priced = eqb-true _ _ (b .0);
+              below = all-solved cells _ (b .1 .0);
+            };
       }
         where
-          range : (leb (cellOf cells s .value) ceiling ≡ true) × ((leb (cellOf cells s .mark) 1 ≡ true) × ((chosenInRange (nodeAt p s) (cellOf cells s) ≡ true) × Unit {0}))
+          range : (leb (cellOf cells s .value) ceiling ≡ true) × ((leb (cellOf cells s .mark) 1 ≡ true) ×
+              ((chosenInRange (nodeAt p s) (cellOf cells s) ≡ true) × Unit {0}))
           range = all-true _ (five s l .1)
 
           seven : valueUnder p cells s (nodeAt p s) ≡ true
@@ -97,7 +107,8 @@ module _ (p : Problem) (cells : List Cell) (h : Asked p cells) where
           eight : fork (solved (cellOf cells s)) (λ _. markEarned p cells s (nodeAt p s)) (λ _. true) ≡ true
           eight = every-true (states p) _ (h .eight) s l
 
-          open-chosen : (n : Node) → nodeAt p s ≡ n → solved (cellOf cells s) ≡ false → chosenInRange n (cellOf cells s) ≡ true → cellOf cells s .chosen ≡ 0
+          open-chosen : (n : Node) → nodeAt p s ≡ n → solved (cellOf cells s) ≡ false → chosenInRange n (cellOf cells s) ≡ true →
+              cellOf cells s .chosen ≡ 0
           open-chosen (terminal cost) e o r = chosen-zero (nodeAt p s) (cellOf cells s) (h .shaped .chosen s l) cost e
           open-chosen (decision acts) e o r = eqb-true _ _ (rw o at r)
       go s (inr le) = record {
@@ -118,7 +129,14 @@ module _ (p : Problem) (cells : List Cell) (h : Asked p cells) where
 pub still-asked : (p : Problem) (first cells : List Cell) → Asked p first → Consistent p cells → Asked p cells
 unfolding question5 question7 question8 cellInRange chosenInRange valueUnder markEarned passedBy
 still-asked p first cells h g = record {
-  shaped = record { some = h .shaped .some; most = h .shaped .most; start = h .shaped .start; nodes = h .shaped .nodes; count = g .size; chosen = λ s l. chosen s (nodeAt p s) refl };
+  shaped = record {
+    some = h .shaped .some;
+    most = h .shaped .most;
+    start = h .shaped .start;
+    nodes = h .shaped .nodes;
+    count = g .size;
+    chosen = λ s l. chosen s (nodeAt p s) refl;
+  };
   five = true-every (states p) _ (λ s l. true-all _ (five p first h s l .0, (in-range s, tt)));
   six = h .six;
   seven = true-every (states p) _ (λ s l. under s (nodeAt p s) refl);
@@ -135,13 +153,17 @@ still-asked p first cells h g = record {
     range s (decision acts) e false eb = rw eb (eq-eqb _ _ (g .sound s .unchosen eb))
 
     in-range : (s : ℕ) → cellInRange (nodeAt p s) (cellOf cells s) ≡ true
-    in-range s = true-all _ (le-leb _ _ (g .sound s .small), (le-leb _ _ (g .sound s .mark), (range s (nodeAt p s) refl (solved (cellOf cells s)) refl, tt)))
+    in-range s =
+        let h = g .sound s in
+        true-all _ (le-leb _ _ (h .small), (le-leb _ _ (h .mark), (range s (nodeAt p s) refl (solved (cellOf cells s)) refl, tt)))
 
     under : (s : ℕ) (n : Node) → nodeAt p s ≡ n → valueUnder p cells s n ≡ true
     under s (terminal cost) e = le-leb _ _ (g .sound s .under-cost cost e)
     under s (decision acts) e = true-every (length acts) _ (λ i l. le-leb _ _ (g .sound s .under-q acts i e l))
 
-    earned : (s : ℕ) (n : Node) → nodeAt p s ≡ n → (b : Bool) → solved (cellOf cells s) ≡ b → fork b (λ _. markEarned p cells s n) (λ _. true) ≡ true
+    earned : (s : ℕ) (n : Node) → nodeAt p s ≡ n → (b : Bool) → solved (cellOf cells s) ≡ b →
+        fork b (λ _. markEarned p cells s n) (λ _. true) ≡ true
     earned s n e false eb = refl
     earned s (terminal cost) e true eb = eq-eqb _ _ (g .sound s .at-cost cost e eb)
-    earned s (decision acts) e true eb = let r = g .sound s .settles acts e eb in true-all _ (eq-eqb _ _ (r .priced), (solved-all cells _ (r .below), tt))
+    earned s (decision acts) e true eb =
+        let r = g .sound s .settles acts e eb in true-all _ (eq-eqb _ _ (r .priced), (solved-all cells _ (r .below), tt))

@@ -1,5 +1,5 @@
--- What consistent cells say of V*: no value is above its cut, and a solved value is it. The written policy is closed from a solved state and costs
--- its value.
+-- What consistent cells say of V*: no value is above its cut, and a solved value is it. The written policy is closed from a solved state
+-- and costs its value.
 use Prim.Native.Nat.{ℕ, _<_, _≤_}
 use mathlib.Core.Path.{_≡_, refl, sym, _∙_}
 use mathlib.Core.Bool.{true}
@@ -24,12 +24,15 @@ module _ (p : Problem) (wf : WellFormed p) (cells : List Cell) (h : Consistent p
     where
       go : (n : Node) → nodeAt p s ≡ n → valueOf cells s ≤ bellmanCutAt (p .kind) (valueOf cells) n
       go (terminal cost) e = omega (arith, h .sound s .small, h .sound s .under-cost cost e)
-      go (decision acts) e = least-above (q (p .kind) (valueOf cells)) acts (valueOf cells s) (wf .has-action s acts e) (λ i l. h .sound s .under-q acts i e l)
+      go (decision acts) e =
+          least-above (q (p .kind) (valueOf cells)) acts (valueOf cells s) (wf .has-action s acts e) (λ i l. h .sound s .under-q acts i e l)
 
   -- admissible
   pub below-optimal : (s : ℕ) → valueOf cells s ≤ cut (optimal p s)
   unfolding bellmanCutAt
-  below-optimal = downward (λ s. valueOf cells s ≤ cut (optimal p s)) (states p) (λ s ih. omega (arith, monotone s, optimal-cut p wf s, go s ih (nodeAt p s) refl))
+  below-optimal =
+      downward (λ s. valueOf cells s ≤ cut (optimal p s)) (states p)
+      (λ s ih. omega (arith, monotone s, optimal-cut p wf s, go s ih (nodeAt p s) refl))
     where
       go : (s : ℕ) → ((t : ℕ) → s < t → t < states p → valueOf cells t ≤ cut (optimal p t)) → (n : Node) → nodeAt p s ≡ n →
           bellmanCutAt (p .kind) (valueOf cells) n ≤ bellmanCutAt (p .kind) (λ t. cut (optimal p t)) n
@@ -45,7 +48,8 @@ module _ (p : Problem) (wf : WellFormed p) (cells : List Cell) (h : Consistent p
 
   solved-reached : {s t : ℕ} → Reach p (written cells) s t → solved (cellOf cells s) ≡ true → solved (cellOf cells t) ≡ true
   solved-reached arrived e = e
-  solved-reached (onward {s} {u} {t} {i} {acts} node chosen m r) e = solved-reached r (h .sound s .settles acts node e .below u (rw same at m))
+  solved-reached (onward {s} {u} {t} {i} {acts} node chosen m r) e =
+      solved-reached r (h .sound s .settles acts node e .below u (rw same at m))
     where
       same : i ≡ cellOf cells s .chosen
       same = cc
@@ -53,11 +57,16 @@ module _ (p : Problem) (wf : WellFormed p) (cells : List Cell) (h : Consistent p
   pub written-closed : (s : ℕ) → solved (cellOf cells s) ≡ true → Closed p (written cells) s
   written-closed s e t acts r node = (cellOf cells t .chosen, refl, h .sound t .settles acts node (solved-reached r e) .exists)
 
-  pub written-costs : (s : ℕ) → solved (cellOf cells s) ≡ true → valueOf cells s < ceiling → policyCost p (written cells) s ≡ valueOf cells s
-  written-costs = downward (λ s. solved (cellOf cells s) ≡ true → valueOf cells s < ceiling → policyCost p (written cells) s ≡ valueOf cells s) (states p) (λ s ih e l. go s ih e l (nodeAt p s) refl)
+  -- what a solved value under the ceiling says of the written policy
+  abbrev Costs : ℕ → Type 0
+  Costs s = solved (cellOf cells s) ≡ true → valueOf cells s < ceiling → policyCost p (written cells) s ≡ valueOf cells s
+
+  pub written-costs : (s : ℕ) → solved (cellOf cells s) ≡ true → valueOf cells s < ceiling →
+      policyCost p (written cells) s ≡ valueOf cells s
+  written-costs = downward Costs (states p) (λ s ih e l. go s ih e l (nodeAt p s) refl)
     where
-      go : (s : ℕ) → ((t : ℕ) → s < t → t < states p → solved (cellOf cells t) ≡ true → valueOf cells t < ceiling → policyCost p (written cells) t ≡ valueOf cells t) →
-          solved (cellOf cells s) ≡ true → valueOf cells s < ceiling → (n : Node) → nodeAt p s ≡ n → policyCost p (written cells) s ≡ valueOf cells s
+      go : (s : ℕ) → ((t : ℕ) → s < t → t < states p → Costs t) → solved (cellOf cells s) ≡ true → valueOf cells s < ceiling →
+          (n : Node) → nodeAt p s ≡ n → policyCost p (written cells) s ≡ valueOf cells s
       go s ih e l (terminal cost) node = cost-terminal p wf (written cells) s cost node ∙ sym (h .sound s .at-cost cost node e)
       go s ih e l (decision acts) node =
           let g = h .sound s .settles acts node e in
@@ -66,7 +75,9 @@ module _ (p : Problem) (wf : WellFormed p) (cells : List Cell) (h : Consistent p
           let full : valueOf cells s ≡ qFull (p .kind) (valueOf cells) a = omega (arith, g .priced) in
           cost-decision p wf (written cells) s i acts node refl ∙
           qFull-same (p .kind) (policyCost p (written cells)) (valueOf cells) a
-          (λ t m. let f = wf .forward s i t acts node m in ih t (f .0) (f .1) (g .below t m) (omega (arith, qFull-part (p .kind) (valueOf cells) a t m, full, l))) ∙
+          (λ t m.
+          let f = wf .forward s i t acts node m in
+          ih t (f .0) (f .1) (g .below t m) (omega (arith, qFull-part (p .kind) (valueOf cells) a t m, full, l))) ∙
           sym full
 
   -- no closed policy costs less than a state's value

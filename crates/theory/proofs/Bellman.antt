@@ -57,7 +57,8 @@ module _ (p : Problem) (wf : WellFormed p) where
   unfolding bellmanAt
   optimal-decision s acts e = optimal-solves s ∙ ap (bellmanAt (p .kind) (optimal p)) e
 
-  cut-decision : (s : ℕ) (acts : List Action) → nodeAt p s ≡ decision acts → cut (optimal p s) ≡ least (q (p .kind) (λ t. cut (optimal p t))) acts
+  cut-decision : (s : ℕ) (acts : List Action) → nodeAt p s ≡ decision acts →
+      cut (optimal p s) ≡ least (q (p .kind) (λ t. cut (optimal p t))) acts
   cut-decision s acts e =
       let some = wf .has-action s acts e in
       let f : Action → ℕ = qFull (p .kind) (optimal p) in
@@ -69,7 +70,8 @@ module _ (p : Problem) (wf : WellFormed p) where
         r .2,
         q-cut (p .kind) (optimal p) (actionAt acts (r .0)),
         least-below g acts (r .0) (r .1),
-        least-above g acts (cut (optimal p s)) some (λ i l. omega (arith, optimal-decision s acts e, q-cut (p .kind) (optimal p) (actionAt acts i), least-below f acts i l)),
+        least-above g acts (cut (optimal p s)) some
+            (λ i l. omega (arith, optimal-decision s acts e, q-cut (p .kind) (optimal p) (actionAt acts i), least-below f acts i l)),
       )
 
   -- the cut V* solves the cut equation

@@ -101,7 +101,8 @@ module _ (s : List ℕ) (p : Problem) (cells : List Cell) (h : Stands s p cells)
       go : (n : Node) → nodeAt p t ≡ n → (b : Bool) → solved (cellOf cells′ t) ≡ b → cellOf cells′ t .chosen < 256
       go n e false o = omega (arith, g .sound t .unchosen o)
       go (terminal cost) e true o = omega (arith, g .sound t .endless cost e)
-      go (decision acts) e true o = omega (arith, g .sound t .settles acts e o .exists, subst NodeShaped e (node-shaped (p .nodes) (h .asked .shaped .nodes) t) .0 .1)
+      go (decision acts) e true o =
+          omega (arith, g .sound t .settles acts e o .exists, subst NodeShaped e (node-shaped (p .nodes) (h .asked .shaped .nodes) t) .0 .1)
 
   -- consistent cells of the same problem, written, stand for it
   rewritten : (cells′ : List Cell) → Consistent p cells′ → Stands (write p cells′) p cells′

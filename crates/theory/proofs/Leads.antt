@@ -43,7 +43,15 @@ solved-of e = ap (λ (c : Cell). solved c) e
 
 module _ {p : Problem} {budget : ℕ} where
   pub stay : {s : ℕ} {w : Search} → Ready p budget w → Leads p budget s w w
-  stay r = record { ready = r; rises = λ u. omega arith; keeps = λ u h. refl; below = λ u h. refl; counts = omega arith; paid = omega arith; quiet = λ h u. refl }
+  stay r = record {
+    ready = r;
+    rises = λ u. omega arith;
+    keeps = λ u h. refl;
+    below = λ u h. refl;
+    counts = omega arith;
+    paid = omega arith;
+    quiet = λ h u. refl;
+  }
 
   pub then : {s : ℕ} {w w′ w″ : Search} → Leads p budget s w w′ → Leads p budget s w′ w″ → Leads p budget s w w″
   then {s} {w} {w′} {w″} a b = record {
@@ -58,10 +66,19 @@ module _ {p : Problem} {budget : ℕ} where
 
   -- who leaves more states alone leaves fewer alone
   pub wider : {s t : ℕ} {w w′ : Search} → s ≤ t → Leads p budget t w w′ → Leads p budget s w w′
-  wider le a = record { ready = a .ready; rises = a .rises; keeps = a .keeps; below = λ u h. a .below u (omega arith); counts = a .counts; paid = a .paid; quiet = a .quiet }
+  wider le a = record {
+    ready = a .ready;
+    rises = a .rises;
+    keeps = a .keeps;
+    below = λ u h. a .below u (omega arith);
+    counts = a .counts;
+    paid = a .paid;
+    quiet = a .quiet;
+  }
 
 -- a state whose own cell stays is still sound when values rise and solved cells stay
-keep-sound : (p : Problem) (cells cells′ : List Cell) (u : ℕ) → cellOf cells′ u ≡ cellOf cells u → ((t : ℕ) → valueOf cells t ≤ valueOf cells′ t) →
+keep-sound : (p : Problem) (cells cells′ : List Cell) (u : ℕ) → cellOf cells′ u ≡ cellOf cells u →
+    ((t : ℕ) → valueOf cells t ≤ valueOf cells′ t) →
     ((t : ℕ) → solved (cellOf cells t) ≡ true → cellOf cells′ t ≡ cellOf cells t) → Sound p cells u → Sound p cells′ u
 keep-sound p cells cells′ u e rises keeps h = record {
   small = rw e (h .small);
@@ -69,17 +86,23 @@ keep-sound p cells cells′ u e rises keeps h = record {
   unchosen = rw e (h .unchosen);
   endless = rw e (h .endless);
   under-cost = rw e (h .under-cost);
-  under-q = λ acts i n l. omega (arith, value-of e, h .under-q acts i n l, q-mono (p .kind) (valueOf cells) (valueOf cells′) (actionAt acts i) (λ t m. rises t));
+  under-q = λ acts i n l.
+      let dearer = q-mono (p .kind) (valueOf cells) (valueOf cells′) (actionAt acts i) (λ t m. rises t) in
+      omega (arith, value-of e, h .under-q acts i n l, dearer);
   at-cost = rw e (h .at-cost);
   settles = λ acts n sol. let g = h .settles acts n (solved-of (sym e) ∙ sol) in record {
     exists = rw e (g .exists);
-    priced = rw e (omega (arith, g .priced, qFull-same (p .kind) (valueOf cells) (valueOf cells′) (actionAt acts (cellOf cells u .chosen)) (λ t m. value-of (sym (keeps t (g .below t m))))));
+    priced =
+        let a = actionAt acts (cellOf cells u .chosen) in
+        let same = qFull-same (p .kind) (valueOf cells) (valueOf cells′) a (λ t m. value-of (sym (keeps t (g .below t m)))) in
+        rw e (omega (arith, g .priced, same));
     below = rw e (λ t m. solved-of (keeps t (g .below t m)) ∙ g .below t m);
   };
 }
 
 -- the cell c put at an open state s, whose value does not fall, with r raises made by then
-module _ (p : Problem) (budget s r : ℕ) (w : Search) (c : Cell) (ready : Ready p budget w) (state : s < states p) (isOpen : solvedAt w s ≡ false) (up : valueAt w s ≤ c .value) where
+module _ (p : Problem) (budget s r : ℕ) (w : Search) (c : Cell) (ready : Ready p budget w) (state : s < states p)
+    (isOpen : solvedAt w s ≡ false) (up : valueAt w s ≤ c .value) where
   abbrev w′ : Search
   w′ = record { cells = set (w .cells) s c; raises = r }
 
@@ -103,7 +126,10 @@ module _ (p : Problem) (budget s r : ℕ) (w : Search) (c : Cell) (ready : Ready
       r + sumBelow (states p) (valueAt w) ≤ w .raises + sumBelow (states p) (valueAt w′) →
       (r ≡ w .raises → (u : ℕ) → valueAt w′ u ≡ valueAt w u) → Leads p budget s w w′
   put-leads sound counts within paid quiet = record {
-    ready = record { consistent = record { size = simp length-set (ready .consistent .size); sound = λ u. go u (same-or-not u s) }; within = within };
+    ready = record {
+      consistent = record { size = simp length-set (ready .consistent .size); sound = λ u. go u (same-or-not u s) };
+      within = within;
+    };
     rises = put-rises;
     keeps = put-keeps;
     below = λ u h. put-other u (omega arith);
@@ -120,7 +146,8 @@ module _ (p : Problem) (budget s r : ℕ) (w : Search) (c : Cell) (ready : Ready
 pub record Fits (p : Problem) (cells : List Cell) (s x : ℕ) : Type 0 where
   pub small : x ≤ ceiling
   pub under-cost : (cost : ℕ) → nodeAt p s ≡ terminal cost → x ≤ cost
-  pub under-q : (acts : List Action) (i : ℕ) → nodeAt p s ≡ decision acts → i < length acts → x ≤ q (p .kind) (valueOf cells) (actionAt acts i)
+  pub under-q : (acts : List Action) (i : ℕ) → nodeAt p s ≡ decision acts → i < length acts →
+      x ≤ q (p .kind) (valueOf cells) (actionAt acts i)
 
 module _ (p : Problem) (budget s x : ℕ) (w : Search) (ready : Ready p budget w) (state : s < states p) where
   abbrev c : Cell
@@ -140,7 +167,9 @@ module _ (p : Problem) (budget s x : ℕ) (w : Search) (ready : Ready p budget w
       unchosen = rw raised-cell (h .unchosen);
       endless = rw raised-cell (h .endless);
       under-cost = rw raised-cell (fits .under-cost);
-      under-q = λ acts i n l. omega (arith, value-of raised-cell, fits .under-q acts i n l, q-mono (p .kind) (valueAt w) (valueAt (raised s x w)) (actionAt acts i) (λ t m. rises t));
+      under-q = λ acts i n l.
+          let dearer = q-mono (p .kind) (valueAt w) (valueAt (raised s x w)) (actionAt acts i) (λ t m. rises t) in
+          omega (arith, value-of raised-cell, fits .under-q acts i n l, dearer);
       at-cost = rw raised-cell (λ cost n sol. clash sol isOpen);
       settles = λ acts n sol. clash sol (solved-of raised-cell ∙ isOpen);
     }
@@ -158,7 +187,8 @@ pub record Done (p : Problem) (w : Search) (s i : ℕ) : Type 0 where
   pub priced : (acts : List Action) → nodeAt p s ≡ decision acts → valueAt w s ≡ priceAt p w (actionAt acts i)
   pub solves : (acts : List Action) (t : ℕ) → nodeAt p s ≡ decision acts → t ∈ actionAt acts i .successors → solvedAt w t ≡ true
 
-module _ (p : Problem) (budget s i : ℕ) (w : Search) (ready : Ready p budget w) (state : s < states p) (isOpen : solvedAt w s ≡ false) (done : Done p w s i) where
+module _ (p : Problem) (budget s i : ℕ) (w : Search) (ready : Ready p budget w) (state : s < states p) (isOpen : solvedAt w s ≡ false)
+    (done : Done p w s i) where
   abbrev d : Cell
   d = cell (valueAt w s) 1 i
 
@@ -179,12 +209,18 @@ module _ (p : Problem) (budget s i : ℕ) (w : Search) (ready : Ready p budget w
     unchosen = rw marked-cell (λ sol. clash refl sol);
     endless = rw marked-cell (λ cost n. done .at-cost cost n .0);
     under-cost = rw marked-cell (h .under-cost);
-    under-q = λ acts j n l. omega (arith, marked-values s, h .under-q acts j n l, q-mono (p .kind) (valueAt w) (valueAt (marked s i w)) (actionAt acts j) (λ t m. omega (arith, marked-values t)));
+    under-q = λ acts j n l.
+        let dearer = q-mono (p .kind) (valueAt w) (valueAt (marked s i w)) (actionAt acts j) (λ t m. omega (arith, marked-values t)) in
+        omega (arith, marked-values s, h .under-q acts j n l, dearer);
     at-cost = rw marked-cell (λ cost n sol. done .at-cost cost n .1);
     settles = λ acts n sol. record {
       exists = rw marked-cell (done .exists acts n);
-      priced = rw marked-cell (omega (arith, done .priced acts n, qFull-same (p .kind) (valueAt w) (valueAt (marked s i w)) (actionAt acts i) (λ t m. sym (marked-values t))));
-      below = rw marked-cell (λ t m. let e = done .solves acts t n m in solved-of (put-keeps p budget s (w .raises) w d ready state isOpen (omega arith) t e) ∙ e);
+      priced =
+          let same = qFull-same (p .kind) (valueAt w) (valueAt (marked s i w)) (actionAt acts i) (λ t m. sym (marked-values t)) in
+          rw marked-cell (omega (arith, done .priced acts n, same));
+      below = rw marked-cell (λ t m.
+          let e = done .solves acts t n m in
+          solved-of (put-keeps p budget s (w .raises) w d ready state isOpen (omega arith) t e) ∙ e);
     };
   }
 

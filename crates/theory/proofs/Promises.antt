@@ -35,7 +35,8 @@ module _ {s : List ℕ} {p : Problem} {cells : List Cell} (h : Stands s p cells)
   gaps-total = sum-gap (valueOf cells) (λ t. cut (optimal p t)) (below-optimal p problem-of cells cells-of) (states p)
 
 -- the cells that a sheet stands for are those that its bytes read as
-pub raises-gaps : (s s′ : List ℕ) (p : Problem) (cells cells′ : List Cell) (n : ℕ) → Stands s p cells → Stands s′ p cells′ → Kept p cells cells′ n → n + gaps p cells′ ≤ gaps p cells
+pub raises-gaps : (s s′ : List ℕ) (p : Problem) (cells cells′ : List Cell) (n : ℕ) → Stands s p cells → Stands s′ p cells′ →
+    Kept p cells cells′ n → n + gaps p cells′ ≤ gaps p cells
 raises-gaps s s′ p cells cells′ n h h′ k = omega (arith, gaps-total h, gaps-total h′, k .paid)
 
 module _ (s : List ℕ) (acc : Accepted s) where
@@ -69,7 +70,8 @@ module _ (s : List ℕ) (acc : Accepted s) where
   pub values-monotone : (t : ℕ) → valueOf (cellsOf s) t ≤ bellmanCut (problemOf s) t (valueOf (cellsOf s))
   values-monotone = monotone (problemOf s) wf (cellsOf s) (cells-of stands)
 
-  pub solved-written : (t : ℕ) → solved (cellOf (cellsOf s) t) ≡ true → valueOf (cellsOf s) t ≡ cut (policyCost (problemOf s) (written (cellsOf s)) t)
+  pub solved-written : (t : ℕ) → solved (cellOf (cellsOf s) t) ≡ true →
+      valueOf (cellsOf s) t ≡ cut (policyCost (problemOf s) (written (cellsOf s)) t)
   solved-written = solved-cost (problemOf s) wf (cellsOf s) (cells-of stands)
 
   -- One call, with any number of table entries and any budget.

@@ -35,7 +35,8 @@ module _ (k : Kind) where
   joined-cut : (v : ℕ → ℕ) (ts : List ℕ) → cut (joined k (λ t. cut (v t)) ts) ≡ cut (joined k v ts)
   unfolding joined
   joined-cut v [] = refl
-  joined-cut v (t ∷ ts) = cc (joins k .cuts (v t) (joined k v ts), joins k .cuts (cut (v t)) (joined k (λ t. cut (v t)) ts), joined-cut v ts, idem (v t))
+  joined-cut v (t ∷ ts) =
+      cc (joins k .cuts (v t) (joined k v ts), joins k .cuts (cut (v t)) (joined k (λ t. cut (v t)) ts), joined-cut v ts, idem (v t))
     where
       idem : (n : ℕ) → cut (cut n) ≡ cut n
       idem n = omega arith
@@ -89,7 +90,8 @@ least-below f [] i h = absurd (omega arith)
 least-below f (a ∷ more) zero h = leastFrom-start (f a) f more
 least-below f (a ∷ more) (suc i) h = leastFrom-below (f a) f more i (omega arith)
 
-pub least-attained : (f : Action → ℕ) (acts : List Action) → 0 < length acts → (i : ℕ) × (i < length acts) × (least f acts ≡ f (actionAt acts i))
+pub least-attained : (f : Action → ℕ) (acts : List Action) → 0 < length acts →
+    (i : ℕ) × (i < length acts) × (least f acts ≡ f (actionAt acts i))
 unfolding least
 least-attained f [] h = absurd (omega arith)
 least-attained f (a ∷ more) h = go (leastFrom-attains (f a) f more)
@@ -99,13 +101,16 @@ least-attained f (a ∷ more) h = go (leastFrom-attains (f a) f more)
     go (inr r) = (suc (r .0), omega (arith, r .1), r .2)
 
 -- so whatever is below all of some is below the least, and whatever is above all above it
-pub least-above : (f : Action → ℕ) (acts : List Action) (x : ℕ) → 0 < length acts → ((i : ℕ) → i < length acts → x ≤ f (actionAt acts i)) → x ≤ least f acts
+pub least-above : (f : Action → ℕ) (acts : List Action) (x : ℕ) → 0 < length acts → ((i : ℕ) → i < length acts → x ≤ f (actionAt acts i)) →
+    x ≤ least f acts
 least-above f acts x some h = let r = least-attained f acts some in omega (arith, r .2, h (r .0) (r .1))
 
-pub least-same : (f g : Action → ℕ) (acts : List Action) → ((i : ℕ) → i < length acts → f (actionAt acts i) ≡ g (actionAt acts i)) → least f acts ≡ least g acts
+pub least-same : (f g : Action → ℕ) (acts : List Action) → ((i : ℕ) → i < length acts → f (actionAt acts i) ≡ g (actionAt acts i)) →
+    least f acts ≡ least g acts
 unfolding least
 least-same f g [] h = refl
 least-same f g (a ∷ more) h = omega (arith, half f g h, half g f (λ i l. omega (arith, h i l)))
   where
-    half : (f g : Action → ℕ) → ((i : ℕ) → i < suc (length more) → f (actionAt (a ∷ more) i) ≡ g (actionAt (a ∷ more) i)) → leastFrom (f a) f more ≤ leastFrom (g a) g more
+    half : (f g : Action → ℕ) → ((i : ℕ) → i < suc (length more) → f (actionAt (a ∷ more) i) ≡ g (actionAt (a ∷ more) i)) →
+        leastFrom (f a) f more ≤ leastFrom (g a) g more
     half f g h = least-above g (a ∷ more) (least f (a ∷ more)) (omega arith) (λ i l. omega (arith, h i l, least-below f (a ∷ more) i l))

@@ -9,7 +9,9 @@ use lib.ListN.{length, getD, drop}
 use lib.Seq.{drop-cons, drop-length}
 use Rattle.model.specs.Problem.{Action, Node, terminal, decision, Problem, states, nodeAt, actionAt, _∈_, here, there}
 use Rattle.model.specs.QValue.{least}
-use Rattle.model.specs.Ldfs.{Search, Visit, success, failure, halt, valueAt, solvedAt, priceAt, onTest, onVisit, stored, raised, marked, update, ifDear, visitAll, tryOne, tryAll, visitOpen, visit, Passes, onPass, passes}
+use Rattle.model.specs.Ldfs.{Search, Visit, success, failure, halt, valueAt, solvedAt, priceAt, onTest, onVisit, stored}
+use Rattle.model.specs.Ldfs.{raised, marked, update, ifDear, visitAll, tryOne, tryAll, visitOpen, visit, Passes, onPass}
+use Rattle.model.specs.Ldfs.{passes}
 use Rattle.theory.specs.Consistent.{WellFormed}
 
 -- An update: the same value or a smaller one, a raise, a halt.
@@ -47,7 +49,8 @@ module _ (p : Problem) (budget : ℕ) (v : ℕ → Search → Visit) (s : ℕ) w
     unfolding visitAll onVisit ifDear onTest
     successor-dear e h = turn ∙ (rw (e, lt-ltb (valueAt w′ s) (priceAt p w′ a) h))
 
-    pub successor-passes : v (getD (a .successors) j 0) w ≡ success w′ → priceAt p w′ a ≤ valueAt w′ s → successorsFrom a j w ≡ successorsFrom a (suc j) w′
+    pub successor-passes : v (getD (a .successors) j 0) w ≡ success w′ → priceAt p w′ a ≤ valueAt w′ s →
+        successorsFrom a j w ≡ successorsFrom a (suc j) w′
     unfolding visitAll onVisit ifDear onTest
     successor-passes e h = turn ∙ (rw (e, le-ltb (valueAt w′ s) (priceAt p w′ a) h))
 
@@ -112,18 +115,21 @@ module _ (p : Problem) (budget : ℕ) (v : ℕ → Search → Visit) (s : ℕ) w
     unfolding tryOne onVisit
     try-halts e = rw e
 
-  pub actions-end : (acts : List Action) (w : Search) → actionsFrom acts (length acts) w ≡ update budget s (least (priceAt p w) acts) failure w
+  pub actions-end : (acts : List Action) (w : Search) →
+      actionsFrom acts (length acts) w ≡ update budget s (least (priceAt p w) acts) failure w
   unfolding tryAll
   actions-end acts w = let z : length acts - length acts ≡ 0 = omega arith in rw z
 
 -- A visit does not depend on its fuel, where that is enough.
 module _ (p : Problem) (budget : ℕ) where
-  visitAll-same : (v v′ : ℕ → Search → Visit) (s : ℕ) (a : Action) (ts : List ℕ) → ((t : ℕ) (w : Search) → t ∈ ts → v t w ≡ v′ t w) → (w : Search) → visitAll p budget v s a ts w ≡ visitAll p budget v′ s a ts w
+  visitAll-same : (v v′ : ℕ → Search → Visit) (s : ℕ) (a : Action) (ts : List ℕ) → ((t : ℕ) (w : Search) → t ∈ ts → v t w ≡ v′ t w) →
+      (w : Search) → visitAll p budget v s a ts w ≡ visitAll p budget v′ s a ts w
   unfolding visitAll
   visitAll-same v v′ s a [] h w = refl
   visitAll-same v v′ s a (t ∷ ts) h w = rw (h t w here, fun-ext (visitAll-same v v′ s a ts (λ u w′ m. h u w′ (there m))))
 
-  module _ (v v′ : ℕ → Search → Visit) (s : ℕ) (acts : List Action) (h : (i t : ℕ) (w : Search) → t ∈ actionAt acts i .successors → v t w ≡ v′ t w) where
+  module _ (v v′ : ℕ → Search → Visit) (s : ℕ) (acts : List Action)
+      (h : (i t : ℕ) (w : Search) → t ∈ actionAt acts i .successors → v t w ≡ v′ t w) where
     tryOne-same : (i : ℕ) (next : Search → Visit) (w : Search) → tryOne p budget v s acts i next w ≡ tryOne p budget v′ s acts i next w
     unfolding tryOne
     tryOne-same i next w = rw (visitAll-same v v′ s (actionAt acts i) (actionAt acts i .successors) (h i) w)
@@ -134,16 +140,21 @@ module _ (p : Problem) (budget : ℕ) where
     tryAll-same (suc n) i w = rw (fun-ext (tryAll-same n (suc i)), fun-ext (tryOne-same i (tryAll p budget v′ s acts n (suc i))))
 
   module _ (wf : WellFormed p) where
-    visitOpen-same : (v v′ : ℕ → Search → Visit) (s : ℕ) → ((t : ℕ) (w : Search) → s < t → t < states p → v t w ≡ v′ t w) → (n : Node) → nodeAt p s ≡ n → (w : Search) → visitOpen p budget v s n w ≡ visitOpen p budget v′ s n w
+    visitOpen-same : (v v′ : ℕ → Search → Visit) (s : ℕ) → ((t : ℕ) (w : Search) → s < t → t < states p → v t w ≡ v′ t w) →
+        (n : Node) → nodeAt p s ≡ n → (w : Search) → visitOpen p budget v s n w ≡ visitOpen p budget v′ s n w
     unfolding visitOpen
     visitOpen-same v v′ s h (terminal cost) e w = refl
-    visitOpen-same v v′ s h (decision acts) e w = tryAll-same v v′ s acts (λ i t w′ m. let f = wf .forward s i t acts e m in h t w′ (f .0) (f .1)) (length acts) 0 w
+    visitOpen-same v v′ s h (decision acts) e w =
+        tryAll-same v v′ s acts (λ i t w′ m. let f = wf .forward s i t acts e m in h t w′ (f .0) (f .1)) (length acts) 0 w
 
-    pub any-fuel : (k m s : ℕ) → states p ≤ s + k → states p ≤ s + m → s < states p → (w : Search) → visit p budget k s w ≡ visit p budget m s w
+    pub any-fuel : (k m s : ℕ) → states p ≤ s + k → states p ≤ s + m → s < states p →
+        (w : Search) → visit p budget k s w ≡ visit p budget m s w
     unfolding visit
     any-fuel zero m s h g lt w = absurd (omega arith)
     any-fuel (suc k) zero s h g lt w = absurd (omega arith)
-    any-fuel (suc k) (suc m) s h g lt w = rw (fun-ext (visitOpen-same (visit p budget k) (visit p budget m) s (λ t w′ l tn. any-fuel k m t (omega arith) (omega arith) tn w′) (nodeAt p s) refl))
+    any-fuel (suc k) (suc m) s h g lt w =
+        rw (fun-ext (visitOpen-same (visit p budget k) (visit p budget m) s
+        (λ t w′ l tn. any-fuel k m t (omega arith) (omega arith) tn w′) (nodeAt p s) refl))
 
     -- a visit with fuel enough, which hands itself to its loops
     abbrev pub visitTo : ℕ → Search → Visit
@@ -158,11 +169,13 @@ module _ (p : Problem) (budget : ℕ) where
       unfolding onTest
       visit-solved e = unfolded ∙ (rw e)
 
-      pub visit-terminal : (cost : ℕ) → solvedAt w s ≡ false → nodeAt p s ≡ terminal cost → visitTo s w ≡ update budget s cost (λ w′. success (marked s 0 w′)) w
+      pub visit-terminal : (cost : ℕ) → solvedAt w s ≡ false → nodeAt p s ≡ terminal cost →
+          visitTo s w ≡ update budget s cost (λ w′. success (marked s 0 w′)) w
       unfolding visitOpen onTest
       visit-terminal cost e n = unfolded ∙ (rw (e, n))
 
-      pub visit-decision : (acts : List Action) → solvedAt w s ≡ false → nodeAt p s ≡ decision acts → visitTo s w ≡ actionsFrom p budget visitTo s acts 0 w
+      pub visit-decision : (acts : List Action) → solvedAt w s ≡ false → nodeAt p s ≡ decision acts →
+          visitTo s w ≡ actionsFrom p budget visitTo s acts 0 w
       unfolding visitOpen onTest
       visit-decision acts e n = unfolded ∙ (let z : length acts - 0 ≡ length acts = omega arith in rw (e, n, z))
 
@@ -174,7 +187,8 @@ module _ (p : Problem) (budget n : ℕ) (w w′ : Search) (le : n ≤ budget) wh
   more : suc budget - n ≡ suc (suc budget - suc n)
   more = omega arith
 
-  pub pass-succeeds : visit p budget (states p) (p .start) w ≡ success w′ → passesFrom p budget n w ≡ record { begun = suc n; ended = success w′ }
+  pub pass-succeeds : visit p budget (states p) (p .start) w ≡ success w′ →
+      passesFrom p budget n w ≡ record { begun = suc n; ended = success w′ }
   unfolding passes onPass
   pass-succeeds e = rw (more, e)
 

@@ -10,20 +10,24 @@ use lib.Dec.{ltb}
 use lib.ListN.{length}
 use Rattle.model.specs.Problem.{Action, Node, terminal, decision, Problem, states, nodeAt, actionAt, _∈_, here, there}
 use Rattle.model.specs.QValue.{least}
-use Rattle.model.specs.Ldfs.{Search, Visit, success, failure, halt, valueAt, solvedAt, priceAt, onTest, onVisit, raised, marked, update, ifDear, visitAll, tryOne, tryAll, visitOpen, visit}
+use Rattle.model.specs.Ldfs.{Search, Visit, success, failure, halt, valueAt, solvedAt, priceAt, onTest, onVisit, raised}
+use Rattle.model.specs.Ldfs.{marked, update, ifDear, visitAll, tryOne, tryAll, visitOpen, visit}
 use Rattle.theory.specs.Consistent.{WellFormed}
 use Rattle.theory.proofs.Basics.{same-or-not, lt-or-le}
 use Rattle.theory.proofs.QValueLaws.{q-mono, least-below, least-above, least-attained}
 use Rattle.theory.proofs.Facts.{store-same}
-use Rattle.theory.proofs.Leads.{Ready, Leads, stay, then, wider, Fits, raise-leads, raised-cell, Done, mark-leads, value-of, solved-of}
+use Rattle.theory.proofs.Leads.{Ready, Leads, stay, then, wider, Fits, raise-leads, raised-cell, Done, mark-leads}
+use Rattle.theory.proofs.Leads.{value-of, solved-of}
 
 -- What holds of a case function, from what holds in each case.
-on-test : (P : Visit → Type 0) (b : Bool) (f g : Search → Visit) (w : Search) → (b ≡ true → P (f w)) → (b ≡ false → P (g w)) → P (onTest b f g w)
+on-test : (P : Visit → Type 0) (b : Bool) (f g : Search → Visit) (w : Search) → (b ≡ true → P (f w)) → (b ≡ false → P (g w)) →
+    P (onTest b f g w)
 unfolding onTest
 on-test P true f g w h k = h refl
 on-test P false f g w h k = k refl
 
-on-visit : (P Q : Visit → Type 0) (r : Visit) (f g : Search → Visit) → P r → ((w : Search) → P (success w) → Q (f w)) → ((w : Search) → P (failure w) → Q (g w)) → ((w : Search) → P (halt w) → Q (halt w)) → Q (onVisit r f g)
+on-visit : (P Q : Visit → Type 0) (r : Visit) (f g : Search → Visit) → P r → ((w : Search) → P (success w) → Q (f w)) →
+    ((w : Search) → P (failure w) → Q (g w)) → ((w : Search) → P (halt w) → Q (halt w)) → Q (onVisit r f g)
 unfolding onVisit
 on-visit P Q (success w) f g x h k l = h w x
 on-visit P Q (failure w) f g x h k l = k w x
@@ -34,7 +38,8 @@ on-dear : (P : Visit → Type 0) (p : Problem) (s : ℕ) (a : Action) (f g : Sea
 unfolding ifDear
 on-dear P p s a f g w h k = on-test P (ltb (valueAt w s) (priceAt p w a)) f g w (λ e. h (ltb-true _ _ e)) (λ e. k (ltb-false _ _ e))
 
--- How a visit to s that began at w ends: a success leaves s solved; a failure has raised something since r raises; a halt has spent the budget.
+-- How a visit to s that began at w ends: a success leaves s solved; a failure has raised something since r raises; a halt has spent
+-- the budget.
 abbrev pub Visited : Problem → ℕ → ℕ → ℕ → Search → Visit → Type 0
 Visited p budget s r w (success w′) = Leads p budget s w w′ × (solvedAt w′ s ≡ true)
 Visited p budget s r w (failure w′) = Leads p budget s w w′ × (r < w′ .raises)
@@ -42,11 +47,13 @@ Visited p budget s r w (halt w′) = Leads p budget s w w′ × (w′ .raises �
 
 -- How the visits to the successors ts of an action a of s end.
 abbrev AllVisited : Problem → ℕ → ℕ → Action → List ℕ → Search → Visit → Type 0
-AllVisited p budget s a ts w (success w′) = Leads p budget (suc s) w w′ × ((t : ℕ) → t ∈ ts → solvedAt w′ t ≡ true) × (priceAt p w′ a ≤ valueAt w′ s)
+AllVisited p budget s a ts w (success w′) =
+    Leads p budget (suc s) w w′ × ((t : ℕ) → t ∈ ts → solvedAt w′ t ≡ true) × (priceAt p w′ a ≤ valueAt w′ s)
 AllVisited p budget s a ts w (failure w′) = Leads p budget (suc s) w w′ × (w′ .raises ≡ w .raises → valueAt w′ s < priceAt p w′ a)
 AllVisited p budget s a ts w (halt w′) = Leads p budget (suc s) w w′ × (w′ .raises ≡ budget)
 
-after-first : {p : Problem} {budget s : ℕ} (t : ℕ) (a : Action) (ts : List ℕ) {w w′ : Search} → Leads p budget (suc s) w w′ → solvedAt w′ t ≡ true → (r : Visit) → AllVisited p budget s a ts w′ r → AllVisited p budget s a (t ∷ ts) w r
+after-first : {p : Problem} {budget s : ℕ} (t : ℕ) (a : Action) (ts : List ℕ) {w w′ : Search} → Leads p budget (suc s) w w′ →
+    solvedAt w′ t ≡ true → (r : Visit) → AllVisited p budget s a ts w′ r → AllVisited p budget s a (t ∷ ts) w r
 after-first t a ts lead solved (success w″) y = (then lead (y .0), split, y .2)
   where
     stays : solvedAt w″ t ≡ true
@@ -58,7 +65,8 @@ after-first t a ts lead solved (success w″) y = (then lead (y .0), split, y .2
 after-first t a ts lead solved (failure w″) y = (then lead (y .0), λ e. y .1 (omega (arith, e, lead .counts, y .0 .counts)))
 after-first t a ts lead solved (halt w″) y = (then lead (y .0), y .1)
 
-later : {p : Problem} {budget s : ℕ} {w w′ : Search} (r : ℕ) → Leads p budget s w w′ → (x : Visit) → Visited p budget s r w′ x → Visited p budget s r w x
+later : {p : Problem} {budget s : ℕ} {w w′ : Search} (r : ℕ) → Leads p budget s w w′ → (x : Visit) → Visited p budget s r w′ x →
+    Visited p budget s r w x
 later r lead (success w″) y = (then lead (y .0), y .1)
 later r lead (failure w″) y = (then lead (y .0), y .1)
 later r lead (halt w″) y = (then lead (y .0), y .1, y .2)
@@ -72,7 +80,8 @@ module _ (p : Problem) (wf : WellFormed p) (budget : ℕ) where
   abbrev Visits : ℕ → (ℕ → Search → Visit) → Type 0
   Visits s v = (t : ℕ) (w : Search) → s < t → t < states p → Ready p budget w → Visited p budget t (w .raises) w (v t w)
 
-  visitAll-does : (v : ℕ → Search → Visit) (s : ℕ) → Visits s v → (a : Action) (ts : List ℕ) → ((t : ℕ) → t ∈ ts → (s < t) × (t < states p)) →
+  visitAll-does : (v : ℕ → Search → Visit) (s : ℕ) → Visits s v → (a : Action) (ts : List ℕ) →
+      ((t : ℕ) → t ∈ ts → (s < t) × (t < states p)) →
       (w : Search) → Ready p budget w → priceAt p w a ≤ valueAt w s → AllVisited p budget s a ts w (visitAll p budget v s a ts w)
   unfolding visitAll
   visitAll-does v s does a [] above w ready le = (stay ready, λ t m. absurd (elim m [ ]), le)
@@ -81,23 +90,31 @@ module _ (p : Problem) (wf : WellFormed p) (budget : ℕ) where
       on-visit (Visited p budget t (w .raises) w) (AllVisited p budget s a (t ∷ ts) w) (v t w) _ _ (does t w lt tn ready)
       (λ w′ x. on-dear (AllVisited p budget s a (t ∷ ts) w) p s a _ _ w′
       (λ dear. (wider lt (x .0), λ _. dear))
-      (λ le′. after-first t a ts (wider lt (x .0)) (x .1) (visitAll p budget v s a ts w′) (visitAll-does v s does a ts (λ u m. above u (there m)) w′ (x .0 .ready) le′)))
+      (λ le′.
+      let others = visitAll-does v s does a ts (λ u m. above u (there m)) w′ (x .0 .ready) le′ in
+      after-first t a ts (wider lt (x .0)) (x .1) (visitAll p budget v s a ts w′) others))
       (λ w′ x. (wider lt (x .0), λ e. absurd (omega (arith, x .1))))
       (λ w′ x. (wider lt (x .0), x .1))
 
   -- the value of s becomes x, which is not below it: a raise, a halt, or nothing to do
-  update-does : (s x r : ℕ) (next : Search → Visit) (w : Search) → Ready p budget w → s < states p → solvedAt w s ≡ false → Fits p (w .cells) s x → valueAt w s ≤ x →
+  update-does : (s x r : ℕ) (next : Search → Visit) (w : Search) → Ready p budget w → s < states p → solvedAt w s ≡ false →
+      Fits p (w .cells) s x → valueAt w s ≤ x →
       (valueAt w s < x → Leads p budget s w (raised s x w) → Visited p budget s r w (next (raised s x w))) →
       (x ≡ valueAt w s → Visited p budget s r w (next w)) → Visited p budget s r w (update budget s x next w)
   unfolding update
   update-does s x r next w ready state isOpen fits up onRaise onSame =
       on-test (Visited p budget s r w) (ltb (valueAt w s) x) _ _ w
       (λ e. on-test (Visited p budget s r w) (ltb (w .raises) budget) _ _ w
-      (λ room. let lt : valueAt w s < x = ltb-true _ _ e in onRaise lt (raise-leads p budget s x w ready state isOpen lt fits (ltb-true _ _ room)))
+      (λ room.
+      let lt : valueAt w s < x = ltb-true _ _ e in
+      onRaise lt (raise-leads p budget s x w ready state isOpen lt fits (ltb-true _ _ room)))
       (λ full. (stay ready, omega (arith, ltb-false (w .raises) budget full, ready .within), isOpen)))
-      (λ e. let same : x ≡ valueAt w s = omega (arith, ltb-false (valueAt w s) x e) in subst (λ (u : Search). Visited p budget s r w (next u)) (sym (store-same s x w same)) (onSame same))
+      (λ e.
+      let same : x ≡ valueAt w s = omega (arith, ltb-false (valueAt w s) x e) in
+      subst (λ (u : Search). Visited p budget s r w (next u)) (sym (store-same s x w same)) (onSame same))
 
-  module _ (v : ℕ → Search → Visit) (s : ℕ) (does : Visits s v) (state : s < states p) (acts : List Action) (node : nodeAt p s ≡ decision acts) where
+  module _ (v : ℕ → Search → Visit) (s : ℕ) (does : Visits s v) (state : s < states p) (acts : List Action)
+      (node : nodeAt p s ≡ decision acts) where
     -- while nothing has been raised since r, each action before number i is too dear
     abbrev Missed : ℕ → ℕ → Search → Type 0
     Missed i r w = w .raises ≡ r → (j : ℕ) → j < i → valueAt w s < priceAt p w (actionAt acts j)
@@ -123,7 +140,9 @@ module _ (p : Problem) (wf : WellFormed p) (budget : ℕ) where
       where
         go : (r < w .raises) ⊎ (w .raises ≤ r) → r < w .raises
         go (inl h) = h
-        go (inr h) = absurd (omega (arith, le, least-above (priceAt p w) acts (suc (valueAt w s)) (wf .has-action s acts node) (missed (omega arith))))
+        go (inr h) =
+            let above = least-above (priceAt p w) acts (suc (valueAt w s)) (wf .has-action s acts node) (missed (omega arith)) in
+            absurd (omega (arith, le, above))
 
     -- the actions of s are acts, however they are come by
     its-acts : (P : List Action → Type 0) → P acts → (acts′ : List Action) → nodeAt p s ≡ decision acts′ → P acts′
@@ -133,14 +152,19 @@ module _ (p : Problem) (wf : WellFormed p) (budget : ℕ) where
     fits-least w = record {
       small = let r = least-attained (priceAt p w) acts (wf .has-action s acts node) in omega (arith, r .2);
       under-cost = λ cost e. no-node e node;
-      under-q = λ acts′ i e. its-acts (λ xs. i < length xs → least (priceAt p w) acts ≤ priceAt p w (actionAt xs i)) (least-below (priceAt p w) acts i) acts′ e;
+      under-q = λ acts′ i e.
+          its-acts (λ xs. i < length xs → least (priceAt p w) acts ≤ priceAt p w (actionAt xs i))
+          (least-below (priceAt p w) acts i) acts′ e;
     }
 
-    done : (w : Search) (i : ℕ) → Ready p budget w → i < length acts → ((t : ℕ) → t ∈ actionAt acts i .successors → solvedAt w t ≡ true) → priceAt p w (actionAt acts i) ≤ valueAt w s → Done p w s i
+    done : (w : Search) (i : ℕ) → Ready p budget w → i < length acts → ((t : ℕ) → t ∈ actionAt acts i .successors → solvedAt w t ≡ true) →
+        priceAt p w (actionAt acts i) ≤ valueAt w s → Done p w s i
     done w i ready l solved le = record {
       at-cost = λ cost e. no-node e node;
       exists = its-acts (λ xs. i < length xs) l;
-      priced = its-acts (λ xs. valueAt w s ≡ priceAt p w (actionAt xs i)) (omega (arith, le, ready .consistent .sound s .under-q acts i node l));
+      priced =
+          let is : valueAt w s ≡ priceAt p w (actionAt acts i) = omega (arith, le, ready .consistent .sound s .under-q acts i node l) in
+          its-acts (λ xs. valueAt w s ≡ priceAt p w (actionAt xs i)) is;
       solves = λ acts′ t e. its-acts (λ xs. t ∈ actionAt xs i .successors → solvedAt w t ≡ true) (solved t) acts′ e;
     }
 
@@ -153,19 +177,31 @@ module _ (p : Problem) (wf : WellFormed p) (budget : ℕ) where
 
     -- the visits to an action's successors leave s alone
     goes-on : (i r : ℕ) (w w′ : Search) → Trying i r w → Leads p budget (suc s) w w′ → Trying i r w′
-    goes-on i r w w′ h lead = record
-        { ready = lead .ready; isOpen = solved-of (lead .below s (omega arith)) ∙ h .isOpen; begun = omega (arith, h .begun, lead .counts); missed = still i r w w′ (h .begun) lead (h .missed) }
+    goes-on i r w w′ h lead = record {
+      ready = lead .ready;
+      isOpen = solved-of (lead .below s (omega arith)) ∙ h .isOpen;
+      begun = omega (arith, h .begun, lead .counts);
+      missed = still i r w w′ (h .begun) lead (h .missed);
+    }
 
     next-action : (i r : ℕ) (w : Search) → Trying i r w → (w .raises ≡ r → valueAt w s < priceAt p w (actionAt acts i)) → Trying (suc i) r w
     next-action i r w h dear = record { ready = h .ready; isOpen = h .isOpen; begun = h .begun; missed = one-more i r w (h .missed) dear }
 
-    tryOne-does : (i r : ℕ) → i < length acts → (next : Search → Visit) (w : Search) → Trying i r w → priceAt p w (actionAt acts i) ≤ valueAt w s →
-        ((w′ : Search) → Trying (suc i) r w′ → Visited p budget s r w′ (next w′)) → Visited p budget s r w (tryOne p budget v s acts i next w)
+    tryOne-does : (i r : ℕ) → i < length acts → (next : Search → Visit) (w : Search) → Trying i r w →
+        priceAt p w (actionAt acts i) ≤ valueAt w s →
+        ((w′ : Search) → Trying (suc i) r w′ → Visited p budget s r w′ (next w′)) →
+        Visited p budget s r w (tryOne p budget v s acts i next w)
     unfolding tryOne
     tryOne-does i r l next w h le rest =
-        on-visit (AllVisited p budget s a ts w) (Visited p budget s r w) (visitAll p budget v s a ts w) _ _ (visitAll-does v s does a ts (λ t m. wf .forward s i t acts node m) w (h .ready) le)
-        (λ w′ x. let g = goes-on i r w w′ h (x .0) in let m = mark-leads p budget s i w′ (g .ready) state (g .isOpen) (done w′ i (g .ready) l (x .1) (x .2)) in (then (near (x .0)) (m .0), m .1))
-        (λ w′ x. later r (near (x .0)) (next w′) (rest w′ (next-action i r w′ (goes-on i r w w′ h (x .0)) (λ e. x .1 (omega (arith, e, h .begun, x .0 .counts))))))
+        let visits = visitAll-does v s does a ts (λ t m. wf .forward s i t acts node m) w (h .ready) le in
+        on-visit (AllVisited p budget s a ts w) (Visited p budget s r w) (visitAll p budget v s a ts w) _ _ visits
+        (λ w′ x.
+        let g = goes-on i r w w′ h (x .0) in
+        let m = mark-leads p budget s i w′ (g .ready) state (g .isOpen) (done w′ i (g .ready) l (x .1) (x .2)) in
+        (then (near (x .0)) (m .0), m .1))
+        (λ w′ x.
+        let left = next-action i r w′ (goes-on i r w w′ h (x .0)) (λ e. x .1 (omega (arith, e, h .begun, x .0 .counts))) in
+        later r (near (x .0)) (next w′) (rest w′ left))
         (λ w′ x. (near (x .0), x .1, goes-on i r w w′ h (x .0) .isOpen))
       where
         a : Action
@@ -177,11 +213,13 @@ module _ (p : Problem) (wf : WellFormed p) (budget : ℕ) where
         near : {w w′ : Search} → Leads p budget (suc s) w w′ → Leads p budget s w w′
         near lead = wider (omega arith) lead
 
-    tryAll-does : (n i : ℕ) → i + n ≡ length acts → (r : ℕ) (w : Search) → Trying i r w → Visited p budget s r w (tryAll p budget v s acts n i w)
+    tryAll-does : (n i : ℕ) → i + n ≡ length acts → (r : ℕ) (w : Search) → Trying i r w →
+        Visited p budget s r w (tryAll p budget v s acts n i w)
     unfolding tryAll
     tryAll-does zero i count r w h =
         update-does s (least (priceAt p w) acts) r failure w (h .ready) state (h .isOpen) (fits-least w)
-        (least-above (priceAt p w) acts (valueAt w s) (wf .has-action s acts node) (λ j l. h .ready .consistent .sound s .under-q acts j node l))
+        (least-above (priceAt p w) acts (valueAt w s) (wf .has-action s acts node)
+        (λ j l. h .ready .consistent .sound s .under-q acts j node l))
         (λ up lead. (lead, omega (arith, h .begun)))
         (λ same. (stay (h .ready), dearer r w (h .begun) (λ e j l. h .missed e j (omega arith)) (omega arith)))
     tryAll-does (suc n) i count r w h =
@@ -190,8 +228,10 @@ module _ (p : Problem) (wf : WellFormed p) (budget : ℕ) where
         (λ le. tryOne-does i r (omega arith) (tryAll p budget v s acts n (suc i)) w h le (tryAll-does n (suc i) (omega arith) r))
 
   -- a terminal that has its cost for a value is marked
-  finish : (s cost : ℕ) (w w′ : Search) → nodeAt p s ≡ terminal cost → s < states p → Leads p budget s w w′ → solvedAt w′ s ≡ false → valueAt w′ s ≡ cost → Visited p budget s (w .raises) w (success (marked s 0 w′))
-  finish s cost w w′ e state lead isOpen value = let m = mark-leads p budget s 0 w′ (lead .ready) state isOpen is-done in (then lead (m .0), m .1)
+  finish : (s cost : ℕ) (w w′ : Search) → nodeAt p s ≡ terminal cost → s < states p → Leads p budget s w w′ → solvedAt w′ s ≡ false →
+      valueAt w′ s ≡ cost → Visited p budget s (w .raises) w (success (marked s 0 w′))
+  finish s cost w w′ e state lead isOpen value =
+      let m = mark-leads p budget s 0 w′ (lead .ready) state isOpen is-done in (then lead (m .0), m .1)
     where
       is-done : Done p w′ s 0
       is-done = record {
@@ -201,21 +241,34 @@ module _ (p : Problem) (wf : WellFormed p) (budget : ℕ) where
         solves = λ acts t e′. no-node e e′;
       }
 
-  visitOpen-does : (v : ℕ → Search → Visit) (s : ℕ) → Visits s v → s < states p → (n : Node) → nodeAt p s ≡ n → (w : Search) → Ready p budget w → solvedAt w s ≡ false →
+  visitOpen-does : (v : ℕ → Search → Visit) (s : ℕ) → Visits s v → s < states p → (n : Node) → nodeAt p s ≡ n →
+      (w : Search) → Ready p budget w → solvedAt w s ≡ false →
       Visited p budget s (w .raises) w (visitOpen p budget v s n w)
   unfolding visitOpen
   visitOpen-does v s does state (terminal cost) e w ready isOpen =
-      update-does s cost (w .raises) (λ w′. success (marked s 0 w′)) w ready state isOpen fits (ready .consistent .sound s .under-cost cost e)
-      (λ up lead. finish s cost w (raised s cost w) e state lead (solved-of (raised-cell p budget s cost w ready state) ∙ isOpen) (value-of (raised-cell p budget s cost w ready state)))
+      let raise = raised-cell p budget s cost w ready state in
+      let under = ready .consistent .sound s .under-cost cost e in
+      update-does s cost (w .raises) (λ w′. success (marked s 0 w′)) w ready state isOpen fits under
+      (λ up lead. finish s cost w (raised s cost w) e state lead (solved-of raise ∙ isOpen) (value-of raise))
       (λ same. finish s cost w w e state (stay ready) isOpen (sym same))
     where
       fits : Fits p (w .cells) s cost
-      fits = record { small = wf .capped s cost e; under-cost = λ cost′ e′. let same : cost ≡ cost′ = cc in omega arith; under-q = λ acts i e′. no-node e e′ }
+      fits = record {
+        small = wf .capped s cost e;
+        under-cost = λ cost′ e′. let same : cost ≡ cost′ = cc in omega arith;
+        under-q = λ acts i e′. no-node e e′;
+      }
   visitOpen-does v s does state (decision acts) e w ready isOpen =
-      tryAll-does v s does state acts e (length acts) 0 (omega arith) (w .raises) w (record { ready = ready; isOpen = isOpen; begun = omega arith; missed = λ _ j l. absurd (omega arith) })
+      tryAll-does v s does state acts e (length acts) 0 (omega arith) (w .raises) w (record {
+        ready = ready;
+        isOpen = isOpen;
+        begun = omega arith;
+        missed = λ _ j l. absurd (omega arith);
+      })
 
   -- a visit to any state, with fuel enough
-  pub visit-does : (k s : ℕ) (w : Search) → states p ≤ s + k → s < states p → Ready p budget w → Visited p budget s (w .raises) w (visit p budget k s w)
+  pub visit-does : (k s : ℕ) (w : Search) → states p ≤ s + k → s < states p → Ready p budget w →
+      Visited p budget s (w .raises) w (visit p budget k s w)
   unfolding visit
   visit-does zero s w fuel state ready = absurd (omega arith)
   visit-does (suc k) s w fuel state ready =

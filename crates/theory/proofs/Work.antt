@@ -15,7 +15,8 @@ use Rattle.theory.proofs.Leads.{Ready, Leads, then}
 use Rattle.theory.proofs.Visits.{Visited, visit-does}
 
 on-pass : (P : Visit → Type 0) (Q : Passes → Type 0) (n : ℕ) (r : Visit) (next : Search → Passes) → P r →
-    ((w : Search) → P (success w) → Q (record { begun = n; ended = success w })) → ((w : Search) → P (failure w) → Q (next w)) → ((w : Search) → P (halt w) → Q (record { begun = n; ended = halt w })) → Q (onPass n r next)
+    ((w : Search) → P (success w) → Q (record { begun = n; ended = success w })) → ((w : Search) → P (failure w) → Q (next w)) →
+    ((w : Search) → P (halt w) → Q (record { begun = n; ended = halt w })) → Q (onPass n r next)
 unfolding onPass
 on-pass P Q n (success w) next x h k l = h w x
 on-pass P Q n (failure w) next x h k l = k w x
@@ -31,7 +32,8 @@ record Passed (p : Problem) (budget n : ℕ) (w : Search) (r : Passes) : Type 0 
   end : Ended p budget w (r .ended)
   few : r .begun + w .raises ≤ suc n + raisesOf r
 
-after-failure : {p : Problem} {budget : ℕ} {w w′ : Search} → Leads p budget (p .start) w w′ → (x : Visit) → Ended p budget w′ x → Ended p budget w x
+after-failure : {p : Problem} {budget : ℕ} {w w′ : Search} → Leads p budget (p .start) w w′ → (x : Visit) → Ended p budget w′ x →
+    Ended p budget w x
 after-failure lead (success w″) y = (then lead (y .0), y .1)
 after-failure lead (failure w″) y = y
 after-failure lead (halt w″) y = (then lead (y .0), y .1, y .2)
@@ -69,7 +71,8 @@ module _ (p : Problem) (wf : WellFormed p) where
       w : Search
       w = record { cells = cells; raises = 0 }
 
-      gains : (n : ℕ) (v : Visit) → Leads p budget (p .start) w (searchOf v) → (solvedAt (searchOf v) (p .start) ≡ false → searchOf v .raises ≡ budget) → n + 0 ≤ 1 + searchOf v .raises →
+      gains : (n : ℕ) (v : Visit) → Leads p budget (p .start) w (searchOf v) →
+          (solvedAt (searchOf v) (p .start) ≡ false → searchOf v .raises ≡ budget) → n + 0 ≤ 1 + searchOf v .raises →
           Worked p cells budget (record { begun = n; ended = v })
       gains n v lead spent few = record {
         consistent = lead .ready .consistent;
@@ -81,11 +84,13 @@ module _ (p : Problem) (wf : WellFormed p) where
         few = omega arith;
       }
 
-      go : (n : ℕ) (v : Visit) → Ended p budget w v → n + 0 ≤ 1 + searchOf v .raises → Worked p cells budget (record { begun = n; ended = v })
+      go : (n : ℕ) (v : Visit) → Ended p budget w v → n + 0 ≤ 1 + searchOf v .raises →
+          Worked p cells budget (record { begun = n; ended = v })
       go n (success w′) x few = gains n (success w′) (x .0) (λ o. clash (x .1) o) few
       go n (failure w′) x few = absurd x
       go n (halt w′) x few = gains n (halt w′) (x .0) (λ _. x .1) few
 
 -- in the midst of a call too, raises are at most the number of states times the ceiling
 pub leads-bounded : (p : Problem) (budget s : ℕ) (w w′ : Search) → w .raises ≡ 0 → Leads p budget s w w′ → w′ .raises ≤ states p * ceiling
-leads-bounded p budget s w w′ e lead = omega (arith, lead .paid, sum-bounded (valueOf (w′ .cells)) ceiling (λ u. lead .ready .consistent .sound u .small) (states p))
+leads-bounded p budget s w w′ e lead =
+    omega (arith, lead .paid, sum-bounded (valueOf (w′ .cells)) ceiling (λ u. lead .ready .consistent .sound u .small) (states p))

@@ -34,7 +34,8 @@ pub record Sound (p : Problem) (cells : List Cell) (s : ℕ) : Type 0 where
   pub endless : (cost : ℕ) → nodeAt p s ≡ terminal cost → cellOf cells s .chosen ≡ 0
   -- 7
   pub under-cost : (cost : ℕ) → nodeAt p s ≡ terminal cost → cellOf cells s .value ≤ cost
-  pub under-q : (acts : List Action) (i : ℕ) → nodeAt p s ≡ decision acts → i < length acts → cellOf cells s .value ≤ q (p .kind) (valueOf cells) (actionAt acts i)
+  pub under-q : (acts : List Action) (i : ℕ) → nodeAt p s ≡ decision acts → i < length acts →
+      cellOf cells s .value ≤ q (p .kind) (valueOf cells) (actionAt acts i)
   -- 8
   pub at-cost : (cost : ℕ) → nodeAt p s ≡ terminal cost → solved (cellOf cells s) ≡ true → cellOf cells s .value ≡ cost
   pub settles : (acts : List Action) → nodeAt p s ≡ decision acts → solved (cellOf cells s) ≡ true → Settles p cells s acts
