@@ -9,8 +9,11 @@ use lib.ListN.{length, getD, drop, length-append}
 use lib.Seq.{drop-at, drop-drop}
 use Rattle.model.specs.Tests.{also, all, true-all}
 use Rattle.model.specs.Problem.{Kind, worst, whole, Action, Node, terminal, decision, Problem, Cell, cell, states, cellOf}
-use Rattle.model.specs.Format.{be16, be32, actionTag, actionLength, successorsBytes, actionBytes, actionsBytes, nodeBytes, nodesBytes, kindByte, write}
-use Rattle.model.specs.Read.{maxActions, actionFits, successorsRead, actionRead, actionsGood, actionsRead, actionsLong, pastActions, terminalFits, headerFits, decisionFits, nodesGood, nodesRead, cellsRead, kindOf, problemOf, cellsOf}
+use Rattle.model.specs.Format.{be16, be32, actionTag, actionLength, successorsBytes, actionBytes, actionsBytes, nodeBytes}
+use Rattle.model.specs.Format.{nodesBytes, kindByte, write}
+use Rattle.model.specs.Read.{maxActions, actionFits, successorsRead, actionRead, actionsGood, actionsRead, actionsLong}
+use Rattle.model.specs.Read.{pastActions, terminalFits, headerFits, decisionFits, nodesGood, nodesRead, cellsRead, kindOf}
+use Rattle.model.specs.Read.{problemOf, cellsOf}
 use Rattle.model.specs.Questions.{question3, question4}
 use Rattle.layout.specs.Shape.{Few, ActionsShaped, NodesShaped, ChosenShaped, Shaped}
 use Rattle.layout.proofs.Bytes.{two, four}
@@ -54,14 +57,18 @@ module _ (a : Action) (r : List ℕ) where
 -- Actions, with r behind the last: they are in place, they read back, and r is what follows them.
 module _ (r : List ℕ) (none : getD r 0 0 ≡ actionTag → ⊥) where
   actions-back : (m : ℕ) (acts : List Action) → length acts ≤ m → ActionsShaped acts →
-      (actionsGood m (actionsBytes acts ++ r) ≡ true) × (actionsRead m (actionsBytes acts ++ r) ≡ acts) × (pastActions m (actionsBytes acts ++ r) ≡ r)
+      (actionsGood m (actionsBytes acts ++ r) ≡ true) × (actionsRead m (actionsBytes acts ++ r) ≡ acts) ×
+      (pastActions m (actionsBytes acts ++ r) ≡ r)
   unfolding actionsGood actionsRead actionsLong actionsBytes also
   actions-back zero [] le h = (rw (ne-eqb (getD r 0 0) actionTag none), refl, refl)
   actions-back zero (a ∷ more) le h = absurd (omega arith)
   actions-back (suc m) [] le h = rw (ne-eqb (getD r 0 0) actionTag none) (refl, refl, refl)
   actions-back (suc m) (a ∷ more) le h =
-      let rest = actionsBytes more ++ r in let next = action-rest a rest in let ih = actions-back m more (omega arith) (h .1) in
-      rw (append-assoc, action-fits a rest (h .0), action-back a rest, next, ← drop-drop (actionsLong m rest), next, ih .1) (ih .0, refl, ih .2)
+      let rest = actionsBytes more ++ r in
+      let next = action-rest a rest in
+      let (good, read, past) = actions-back m more (omega arith) (h .1) in
+      rw (append-assoc, action-fits a rest (h .0), action-back a rest, next, ← drop-drop (actionsLong m rest), next, read)
+      (good, refl, past)
 
 first-tag : (acts : List Action) (r : List ℕ) → 1 ≤ length acts → getD (actionsBytes acts ++ r) 0 0 ≡ actionTag
 unfolding actionsBytes
@@ -80,7 +87,8 @@ header-fits acts c r some = rw (le-leb 9 (length (nodeBytes (decision acts) c ++
 -- States: they are in place, and their nodes and their cells read back.
 abbrev NodesBack : List Node → List Cell → Type 0
 NodesBack ns cells =
-    (nodesGood (length ns) (nodesBytes ns cells) ≡ true) × (nodesRead (length ns) (nodesBytes ns cells) ≡ ns) × (cellsRead (length ns) (nodesBytes ns cells) ≡ cells)
+    (nodesGood (length ns) (nodesBytes ns cells) ≡ true) × (nodesRead (length ns) (nodesBytes ns cells) ≡ ns) ×
+    (cellsRead (length ns) (nodesBytes ns cells) ≡ cells)
 
 nodes-back : (ns : List Node) (cells : List Cell) → length cells ≡ length ns → NodesShaped ns →
     ((s : ℕ) → s < length ns → ChosenShaped (getD ns s (terminal 0)) (cellOf cells s)) → NodesBack ns cells
@@ -91,7 +99,8 @@ nodes-back (n ∷ ns) [] e h ch = absurd (omega arith)
 nodes-back (terminal cost ∷ ns) (c ∷ cells) e h ch =
     let ih = nodes-back ns cells (omega arith) (h .1) (λ s lt. ch (suc s) (omega arith)) in
     let z : c .chosen ≡ 0 = ch 0 (omega arith) in
-    rw (terminal-fits cost c (nodesBytes ns cells), four cost, four (c .value), ih .1, ih .2) (ih .0, refl, ap (λ (i : ℕ). cell (c .value) (c .mark) i ∷ cells) (sym z))
+    rw (terminal-fits cost c (nodesBytes ns cells), four cost, four (c .value), ih .1, ih .2)
+    (ih .0, refl, ap (λ (i : ℕ). cell (c .value) (c .mark) i ∷ cells) (sym z))
 nodes-back (decision acts ∷ ns) (c ∷ cells) e h ch =
     let ih = nodes-back ns cells (omega arith) (h .1) (λ s lt. ch (suc s) (omega arith)) in
     let a = actions-back (nodesBytes ns cells) (no-action ns cells) maxActions acts (h .0 .0 .1) (h .0 .1) in

@@ -13,7 +13,9 @@ use Rattle.model.specs.Tests.{also-true, all-true}
 use Rattle.model.specs.Problem.{Node, terminal, decision, Cell, cell, cellOf}
 use Rattle.model.specs.Format.{Bytes, be16, be32, headTag, terminalTag, decisionTag, actionTag, headLength, terminalLength}
 use Rattle.model.specs.Format.{decisionLength, successorsBytes, actionBytes, actionsBytes, nodeBytes, nodesBytes, kindByte, write}
-use Rattle.model.specs.Read.{maxActions, tag, actionFits, successorsRead, actionRead, actionsGood, actionsRead, actionsLong, pastActions, terminalFits, headerFits, decisionFits, nodesGood, nodesRead, cellsRead, kindOf, problemOf, cellsOf}
+use Rattle.model.specs.Read.{maxActions, tag, actionFits, successorsRead, actionRead, actionsGood, actionsRead, actionsLong}
+use Rattle.model.specs.Read.{pastActions, terminalFits, headerFits, decisionFits, nodesGood, nodesRead, cellsRead, kindOf}
+use Rattle.model.specs.Read.{problemOf, cellsOf}
 use Rattle.model.specs.Questions.{maxStates, question3, question4}
 use Rattle.layout.specs.Shape.{Few, ActionsShaped, NodeShaped, NodesShaped, ChosenShaped, Shaped}
 
@@ -38,7 +40,8 @@ unfolding be16
 two-back bs o byte = omega (arith, byte o, byte (o + 1))
 
 pub four-back : (bs : List ℕ) (o : ℕ) → Bytes bs →
-    (be32 bs o / 16777216 ≡ getD bs o 0) × (be32 bs o / 65536 % 256 ≡ getD bs (o + 1) 0) × (be32 bs o / 256 % 256 ≡ getD bs (o + 2) 0) × (be32 bs o % 256 ≡ getD bs (o + 3) 0)
+    (be32 bs o / 16777216 ≡ getD bs o 0) × (be32 bs o / 65536 % 256 ≡ getD bs (o + 1) 0) ×
+    (be32 bs o / 256 % 256 ≡ getD bs (o + 2) 0) × (be32 bs o % 256 ≡ getD bs (o + 3) 0)
 unfolding be32
 four-back bs o byte = omega (arith, byte o, byte (o + 1), byte (o + 2), byte (o + 3))
 
@@ -84,7 +87,8 @@ action-same r byte is fits =
     let same = successors-same n (drop 7 r) (bytes-drop 7 r byte) (simp length-drop (omega arith)) in
     peel 7 0 r (omega arith) ∙ cc (drop-drop (2 * n) 7 r)
 
--- Induction on actions in place at the front of r, of which there may be m: no more may stand there, no more does, or one does with others behind it.
+-- Induction on actions in place at the front of r, of which there may be m: no more may stand there, no more does, or one does with others
+-- behind it.
 module _
     (P : ℕ → List ℕ → Type 0) (full : (r : List ℕ) → P 0 r) (done : (m : ℕ) (r : List ℕ) → eqb (tag r) actionTag ≡ false → P (suc m) r)
     (more : (m : ℕ) (r : List ℕ) → tag r ≡ actionTag → actionFits r ≡ true → P m (drop (3 + be16 r 1) r) → P (suc m) r)
@@ -109,7 +113,9 @@ actions-same =
 actions-shaped : (m : ℕ) (r : List ℕ) → actionsGood m r ≡ true → ActionsShaped (actionsRead m r) × (length (actionsRead m r) ≤ m)
 unfolding actionsRead
 actions-shaped =
-    along-actions (λ m r. ActionsShaped (actionsRead m r) × (length (actionsRead m r) ≤ m)) (λ r. (tt, omega arith)) (λ m r e. rw e (tt, omega arith))
+    along-actions (λ m r. ActionsShaped (actionsRead m r) × (length (actionsRead m r) ≤ m))
+    (λ r. (tt, omega arith))
+    (λ m r e. rw e (tt, omega arith))
     (λ m r is fits ih. rw is ((action-few r fits, ih .0), omega arith))
 
 some-action : (m : ℕ) (r : List ℕ) → tag r ≡ actionTag → 1 ≤ length (actionsRead (suc m) r)
@@ -118,7 +124,8 @@ some-action m r is = rw is (omega arith)
 
 -- One state's field.
 module _ (r : List ℕ) (byte : Bytes r) where
-  terminal-same : tag r ≡ terminalTag → terminalFits r ≡ true → r ≡ nodeBytes (terminal (be32 r 3)) (cell (be32 r 7) (getD r 11 0) 0) ++ drop 12 r
+  terminal-same : tag r ≡ terminalTag → terminalFits r ≡ true →
+      r ≡ nodeBytes (terminal (be32 r 3)) (cell (be32 r 7) (getD r 11 0) 0) ++ drop 12 r
   unfolding terminalFits nodeBytes
   terminal-same is fits =
       let e = all-true _ fits in let l : be16 r 1 ≡ terminalLength = omega (arith, eqb-true) in
@@ -134,7 +141,8 @@ module _ (r : List ℕ) (byte : Bytes r) where
     unfolding decisionFits
     actions-fit = also-true _ _ fits .1
 
-    decision-same : r ≡ nodeBytes (decision (actionsRead maxActions (drop 9 r))) (cell (be32 r 3) (getD r 7 0) (getD r 8 0)) ++ pastActions maxActions (drop 9 r)
+    decision-same : r ≡ nodeBytes (decision (actionsRead maxActions (drop 9 r))) (cell (be32 r 3) (getD r 7 0) (getD r 8 0)) ++
+        pastActions maxActions (drop 9 r)
     unfolding nodeBytes
     decision-same =
         let e = decision-parts in let t = two-back r 1 byte in let q = four-back r 3 byte in
@@ -142,7 +150,8 @@ module _ (r : List ℕ) (byte : Bytes r) where
         peel 9 0 r (e .2) ∙ cc
 
     decision-shaped : NodeShaped (decision (actionsRead maxActions (drop 9 r)))
-    decision-shaped = let h = actions-shaped maxActions (drop 9 r) actions-fit in ((some-action 15 (drop 9 r) (decision-parts .3), h .1), h .0)
+    decision-shaped =
+        let h = actions-shaped maxActions (drop 9 r) actions-fit in ((some-action 15 (drop 9 r) (decision-parts .3), h .1), h .0)
 
 -- r is what n states with these nodes and cells write, and they have the shape.
 record Written (n : ℕ) (r : List ℕ) (ns : List Node) (cells : List Cell) : Type 0 where
@@ -178,18 +187,22 @@ nodes-written zero r byte good = record {
 }
 nodes-written (suc n) r byte good = by-tag (eqb (tag r) terminalTag) refl (nodes-written n)
   where
-    by-tag : (t : Bool) → eqb (tag r) terminalTag ≡ t → ((r : List ℕ) → Bytes r → nodesGood n r ≡ true → Written n r (nodesRead n r) (cellsRead n r)) →
+    by-tag : (t : Bool) → eqb (tag r) terminalTag ≡ t →
+        ((r : List ℕ) → Bytes r → nodesGood n r ≡ true → Written n r (nodesRead n r) (cellsRead n r)) →
         Written (suc n) r (nodesRead (suc n) r) (cellsRead (suc n) r)
     by-tag true e ih =
         let f = also-true _ _ (rw e at good) in
         rw e (written-cons (terminal-same r byte (eqb-true _ _ e) (f .0)) tt refl (ih (drop 12 r) (bytes-drop 12 r byte) (f .1)))
     by-tag false e ih =
-        let f = also-true _ _ (rw e at good) in let past = bytes-drop (actionsLong maxActions (drop 9 r)) (drop 9 r) (bytes-drop 9 r byte) in
-        rw e (written-cons (decision-same r byte (f .0)) (decision-shaped r byte (f .0)) tt (ih (pastActions maxActions (drop 9 r)) past (f .1)))
+        let f = also-true _ _ (rw e at good) in
+        let past = bytes-drop (actionsLong maxActions (drop 9 r)) (drop 9 r) (bytes-drop 9 r byte) in
+        let others = ih (pastActions maxActions (drop 9 r)) past (f .1) in
+        rw e (written-cons (decision-same r byte (f .0)) (decision-shaped r byte (f .0)) tt others)
 
 -- question 3, in numbers
 pub head-says : (bs : List ℕ) → question3 bs ≡ true →
-    (tag bs ≡ headTag) × (be16 bs 1 ≡ headLength) × (8 ≤ length bs) × (getD bs 3 0 ≤ 1) × (1 ≤ be16 bs 4) × (be16 bs 4 ≤ maxStates) × (be16 bs 6 < be16 bs 4)
+    (tag bs ≡ headTag) × (be16 bs 1 ≡ headLength) × (8 ≤ length bs) × (getD bs 3 0 ≤ 1) × (1 ≤ be16 bs 4) × (be16 bs 4 ≤ maxStates) ×
+    (be16 bs 6 < be16 bs 4)
 unfolding question3
 head-says bs head = omega (arith, eqb-true, leb-true, ltb-true, all-true _ head)
 
