@@ -11,15 +11,17 @@ use Rattle.layout.proofs.Placed.{placed-length, placed-before, placed-after, pl
 use Rattle.host.specs.Host.{le32, le64, entryBytes, lengthened}
 
 -- four stores, one after the other, of a number's bytes
-pub stored : (s : List ℕ) (at x a b c d : ℕ) → at + 4 ≤ length s → a ≡ x % 256 → b ≡ x / 256 % 256 → c ≡ x / 65536 % 256 → d ≡ x / 16777216 % 256 →
-    set (set (set (set s at a) (at + 1) b) (at + 2) c) (at + 3) d ≡ placed at (le32 x) s
+pub stored : (s : List ℕ) (at x a b c d : ℕ) → at + 4 ≤ length s → a ≡ x % 256 → b ≡ x / 256 % 256 → c ≡ x / 65536 % 256 →
+    d ≡ x / 16777216 % 256 → set (set (set (set s at a) (at + 1) b) (at + 2) c) (at + 3) d ≡ placed at (le32 x) s
 stored s at x a b c d h p q r t =
-    let one : at + 1 ≡ suc at = omega arith in let two : at + 2 ≡ suc (suc at) = omega arith in let three : at + 3 ≡ suc (suc (suc at)) = omega arith in
+    let one : at + 1 ≡ suc at = omega arith in
+    let two : at + 2 ≡ suc (suc at) = omega arith in
+    let three : at + 3 ≡ suc (suc (suc at)) = omega arith in
     rw (one, two, three, p, q, r, t) (sets-eq (le32 x) s at h ∙ append-assoc (take at s) (le32 x) (drop (at + 4) s))
 
 -- three numbers of eight bytes from the start
-pub three-put : (s s′ s″ s‴ : List ℕ) (x y z : ℕ) → 24 ≤ length s → s′ ≡ placed 0 (le64 x) s → s″ ≡ placed 8 (le64 y) s′ → s‴ ≡ placed 16 (le64 z) s″ →
-    s‴ ≡ placed 0 (le64 x ++ (le64 y ++ le64 z)) s
+pub three-put : (s s′ s″ s‴ : List ℕ) (x y z : ℕ) → 24 ≤ length s → s′ ≡ placed 0 (le64 x) s → s″ ≡ placed 8 (le64 y) s′ →
+    s‴ ≡ placed 16 (le64 z) s″ → s‴ ≡ placed 0 (le64 x ++ (le64 y ++ le64 z)) s
 three-put s s′ s″ s‴ x y z h p q r =
     let long : length s′ ≡ length s = ap length p ∙ placed-length s 0 (le64 x) (omega arith) in
     placed-then s s′ s‴ (le64 x) (le64 y ++ le64 z) 0 (omega arith) p (placed-then s′ s″ s‴ (le64 y) (le64 z) 8 (omega arith) q r)
@@ -55,7 +57,8 @@ pub entered-none : (bytes table : List ℕ) (n : ℕ) → Entered bytes table n 
 unfolding entryBytes
 entered-none bytes table n = record { upto = omega arith; long = refl; done = refl; rest = refl }
 
-pub entered-more : (bytes₀ table : List ℕ) (n : ℕ) (bytes : List ℕ) (i : ℕ) → Entered bytes₀ table n bytes i → i < n → 4 * n ≤ length bytes₀ → (x : ℕ) → x ≡ getD table i 0 → (bytes′ : List ℕ) →
+pub entered-more : (bytes₀ table : List ℕ) (n : ℕ) (bytes : List ℕ) (i : ℕ) → Entered bytes₀ table n bytes i → i < n →
+    4 * n ≤ length bytes₀ → (x : ℕ) → x ≡ getD table i 0 → (bytes′ : List ℕ) →
     length bytes′ ≡ length bytes → bytes′ ≡ placed (4 * i) (le32 x) bytes → Entered bytes₀ table n bytes′ (i + 1)
 unfolding entryBytes
 entered-more bytes₀ table n bytes i h lt room x at bytes′ same e = record {
@@ -78,7 +81,8 @@ entered-more bytes₀ table n bytes i h lt room x at bytes′ same e = record {
     inside : 4 * i + 4 ≤ length bytes
     inside = omega (arith, h .long)
 
-pub entered-all : (bytes₀ table : List ℕ) (n : ℕ) (bytes : List ℕ) (i : ℕ) → Entered bytes₀ table n bytes i → n ≤ i → bytes ≡ entryBytes (lengthened table n) ++ drop (4 * n) bytes₀
+pub entered-all : (bytes₀ table : List ℕ) (n : ℕ) (bytes : List ℕ) (i : ℕ) → Entered bytes₀ table n bytes i → n ≤ i →
+    bytes ≡ entryBytes (lengthened table n) ++ drop (4 * n) bytes₀
 entered-all bytes₀ table n bytes i h le =
     let end : i ≡ n = omega (arith, h .upto) in
     sym (take-append-drop (4 * i) bytes) ∙ rw (h .done, h .rest, end, take-all n (lengthened table n) (rw lengthened-count (omega arith)))

@@ -3,7 +3,8 @@ use Prim.Native.Nat.{ℕ}
 use mathlib.Core.Path.{_≡_, refl}
 use mathlib.Core.List.{List, [], _∷_, map}
 use lib.ListN.{replicate}
-use Rattle.model.specs.Report.{computing, largest}
+use Rattle.model.proofs.Computing.{computing}
+use Rattle.model.specs.Report.{largest}
 use Rattle.model.specs.Calls.{Call}
 use Rattle.model.specs.Demands.{Demand3}
 use Rattle.model.specs.Rows.{sheetA}

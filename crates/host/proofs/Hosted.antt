@@ -7,11 +7,13 @@ use native.Mathlib.Omega.{arith}
 use borrow.Author.Tests.{le-leb, lt-leb, leb-true}
 use lib.ListN.{length, drop, replicate, length-append, length-replicate, replicate-append-replicate}
 use Rattle.model.specs.declared.Answer.{Answer}
-use Rattle.model.specs.Tests.{all-true}
+use Rattle.model.proofs.TestLaws.{all-true}
 use Rattle.model.specs.Problem.{states}
 use Rattle.model.specs.Format.{offsetsFrom}
 use Rattle.model.specs.Read.{problemOf}
-use Rattle.model.specs.Questions.{maxStates, question1, question3, questions, firstNo, refusal, none-no}
+use Rattle.model.specs.Limits.{maxStates}
+use Rattle.model.proofs.QuestionLaws.{none-no}
+use Rattle.model.specs.Questions.{question1, question3, questions, firstNo, refusal}
 use Rattle.model.specs.Report.{number, refused, onRefusal, answerTo, bytesAfter, indexTable, refusedTable, tableAfter}
 use Rattle.ldfs.specs.Made.{Filled}
 use Rattle.ldfs.proofs.Solving.{zeros-solved}
@@ -29,20 +31,24 @@ filled : (xs : List ℕ) (n : ℕ) → length xs ≤ n → lengthened xs n ≡ x
 unfolding lengthened
 filled [] n h = let z : n - 0 ≡ n = omega arith in rw z (filled-none n)
 filled (x ∷ xs) zero h = absurd (omega arith)
-filled (x ∷ xs) (suc n) h = let z : suc n - suc (length xs) ≡ n - length xs = omega arith in rw z (ap (λ (l : List ℕ). x ∷ l) (filled xs n (omega arith)))
+filled (x ∷ xs) (suc n) h =
+    let z : suc n - suc (length xs) ≡ n - length xs = omega arith in rw z (ap (λ (l : List ℕ). x ∷ l) (filled xs n (omega arith)))
 
-filled-index : (ps : List ℕ) (m n : ℕ) → length ps ≤ m → m ≤ n → ps ++ replicate (n - length ps) 0 ≡ lengthened (ps ++ replicate (m - length ps) 0) n
+filled-index : (ps : List ℕ) (m n : ℕ) → length ps ≤ m → m ≤ n →
+    ps ++ replicate (n - length ps) 0 ≡ lengthened (ps ++ replicate (m - length ps) 0) n
 filled-index ps m n few le =
     let long : length (ps ++ replicate (m - length ps) 0) ≡ m = rw (length-append, length-replicate) (omega arith) in
     let z : m - length ps + (n - m) ≡ n - length ps = omega arith in
     sym (filled (ps ++ replicate (m - length ps) 0) n (omega arith) ∙ rw (long, append-assoc, replicate-append-replicate, z))
 
 filled-zeros : (m n : ℕ) → m ≤ n → replicate n 0 ≡ lengthened (replicate m 0) n
-filled-zeros m n le = let z : m + (n - m) ≡ n = omega arith in sym (filled (replicate m 0) n (rw length-replicate le) ∙ rw (length-replicate, replicate-append-replicate, z))
+filled-zeros m n le =
+    let z : m + (n - m) ≡ n = omega arith in
+    sym (filled (replicate m 0) n (rw length-replicate le) ∙ rw (length-replicate, replicate-append-replicate, z))
 
-few-stages : (s : List ℕ) → question3 s ≡ true → states (problemOf s) ≤ maxStates
+head-few : (s : List ℕ) → question3 s ≡ true → states (problemOf s) ≤ maxStates
 unfolding question3
-few-stages s h = omega (arith, states-read s, leb-true, all-true _ h)
+head-few s h = omega (arith, states-read s, leb-true, all-true _ h)
 
 -- what a refused call leaves of zeros
 cleared : (n k : ℕ) → refusedTable (replicate n 0) k ≡ replicate n 0
@@ -72,14 +78,19 @@ module _ (s : List ℕ) (budget : ℕ) where
     few-states : refusal s m budget ≡ 0 → states (problemOf s) ≤ m
     unfolding refusal
     few-states e =
-        omega (arith, few-stages s (none-no 0 (questions s m budget) e .1 .1 .0))
+        omega (arith, head-few s (none-no (questions s m budget) refl e .1 .1 .0))
 
     same-table : tableAfter s (replicate n 0) budget ≡ lengthened (tableAfter s (replicate m 0) budget) n
     unfolding tableAfter onRefusal indexTable
     same-table = rw (length-replicate {A = ℕ} n 0, length-replicate {A = ℕ} m 0, same-refusal) (go (refusal s m budget) refl)
       where
-        go : (k : ℕ) → refusal s m budget ≡ k → onRefusal k (λ _. indexTable (problemOf s) n) (refusedTable (replicate n 0)) ≡ lengthened (onRefusal k (λ _. indexTable (problemOf s) m) (refusedTable (replicate m 0))) n
-        go zero e = let h : length (offsetsFrom 8 (problemOf s .nodes)) ≡ states (problemOf s) = offsets-count 8 (problemOf s .nodes) in rw (← h) (filled-index (offsetsFrom 8 (problemOf s .nodes)) m n (rw h (few-states e)) le)
+        go : (k : ℕ) → refusal s m budget ≡ k →
+            onRefusal k (λ _. indexTable (problemOf s) n) (refusedTable (replicate n 0)) ≡
+            lengthened (onRefusal k (λ _. indexTable (problemOf s) m) (refusedTable (replicate m 0))) n
+        go zero e =
+            let offsets = offsetsFrom 8 (problemOf s .nodes) in
+            let h : length offsets ≡ states (problemOf s) = offsets-count 8 (problemOf s .nodes) in
+            rw (← h) (filled-index offsets m n (rw h (few-states e)) le)
         go (suc k) e = rw (cleared n (suc k), cleared m (suc k)) (filled-zeros m n le)
 
 -- what `put_answer` leaves
@@ -95,7 +106,8 @@ module _ (s t : List ℕ) (budget : ℕ) (r : List ℕ) where
     pub short-table : length t < 4096 → a ≡ refused budget 1 → Hosted s t budget r 1 s t r′
     unfolding hostNumber hostSheet hostTable hostResult answerTo bytesAfter onRefusal
     short-table h e =
-        let few : entries t < maxStates = omega arith in let no : refusal s (entries t) budget ≡ 1 = refused-short s budget (entries t) few in
+        let few : entries t < maxStates = omega arith in
+        let no : refusal s (entries t) budget ≡ 1 = refused-short s budget (entries t) few in
         rw (le-leb 24 (length r) room, no, lt-leb maxStates (entries t) few) (refl, (refl, (refl, told ∙ rw e)))
 
     pub long-table : (m : ℕ) → maxStates ≤ m → m ≤ entries t → (s′ w t′ : List ℕ) (k : ℕ) →
@@ -104,7 +116,9 @@ module _ (s t : List ℕ) (budget : ℕ) (r : List ℕ) where
         Hosted s t budget r k s′ t′ r′
     unfolding hostNumber hostSheet hostTable hostResult
     long-table m enough le s′ w t′ k filled put e =
-        let solved = zeros-solved s budget m enough filled in
-        let answer : a ≡ answerTo s (entries t) budget = solved .0 ∙ rw length-replicate (same-answer s budget m (entries t) enough le) in
-        let sheet : s′ ≡ bytesAfter s (entries t) budget = solved .1 .0 ∙ rw length-replicate (same-bytes s budget m (entries t) enough le) in
-        rw (le-leb 24 (length r) room, le-leb maxStates (entries t) (omega arith), same-table s budget m (entries t) enough le, ← answer, ← sheet, ← (solved .1 .1)) (e, (refl, (put, told)))
+        let n = entries t in
+        let (answered, (written, filled-in)) = zeros-solved s budget m enough filled in
+        let answer : a ≡ answerTo s n budget = answered ∙ rw length-replicate (same-answer s budget m n enough le) in
+        let sheet : s′ ≡ bytesAfter s n budget = written ∙ rw length-replicate (same-bytes s budget m n enough le) in
+        let table = same-table s budget m n enough le in
+        rw (le-leb 24 (length r) room, le-leb maxStates n (omega arith), table, ← answer, ← sheet, ← filled-in) (e, (refl, (put, told)))

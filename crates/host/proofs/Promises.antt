@@ -6,16 +6,19 @@ use mathlib.Core.List.{List, _++_}
 use native.Mathlib.Omega.{arith}
 use borrow.Author.Tests.{le-leb}
 use lib.ListN.{length, drop}
+use Rattle.model.specs.Problem.{solved}
 use Rattle.model.specs.Format.{Bytes}
+use Rattle.model.specs.Read.{problemOf, cellsOf}
+use Rattle.model.specs.Optimal.{gaps}
 use Rattle.model.specs.Tests.{fork}
-use Rattle.model.specs.QValue.{ceiling}
+use Rattle.model.specs.Limits.{ceiling}
 use Rattle.model.specs.Report.{answerTo, bytesAfter}
-use Rattle.model.specs.Calls.{Call, callOn, Calls, none as no-call}
-use Rattle.model.specs.Demands.{Accepted, Demand1, Demand2, Demand3}
+use Rattle.model.specs.Calls.{Call, callOn, Calls, none as no-call, left, budgetsIn}
+use Rattle.model.specs.Demands.{Accepted, startCell, Demand1, Demand2, Demand3}
 use Rattle.layout.proofs.Bytes.{four}
 use Rattle.theory.proofs.Called.{budget-given, call-refused, made-call}
 use Rattle.theory.proofs.Promises.{raises-small, still-a-sheet}
-use Rattle.theory.proofs.Demands.{demand1, demand2, demand3, price-small}
+use Rattle.theory.proofs.Demands.{demand1, demand2, demand3, work-ends, price-small}
 use Rattle.host.specs.Host.{le32, le64, entries, room, hostNumber, hostSheet, hostResult}
 use Rattle.host.specs.HostCalls.{readLe32, readLe64, reported, hostCall, hostEntries, Hosted, HostedAll, none, one}
 use Rattle.host.proofs.Hosted.{refused-short}
@@ -81,8 +84,13 @@ pub host-calls : {s : List ℕ} {calls : List Call} → Accepted s → HostedAll
 host-calls acc none = no-call
 host-calls acc (one {s} {s′} {t′} {r′} {k} {more} t budget r m rest) =
     let same = hosted-call s t budget r m (acc .bytes) in
-    let left : s′ ≡ bytesAfter s (hostEntries t r) budget = ap (λ (c : Call). c .bytes) same in
-    made-call (hostEntries t r) budget same (host-calls (rw left (still-a-sheet s acc (hostEntries t r) budget .0)) rest)
+    let after : s′ ≡ bytesAfter s (hostEntries t r) budget = ap (λ (c : Call). c .bytes) same in
+    made-call (hostEntries t r) budget same (host-calls (rw after (still-a-sheet s acc (hostEntries t r) budget .0)) rest)
 
 pub host-keeps : {s : List ℕ} {calls : List Call} → Accepted s → HostedAll s calls → Demand3 s calls
 host-keeps acc made = demand3 acc (host-calls acc made)
+
+-- S8.11: budgets above the gaps at the outset leave the start settled
+pub host-ends : {s : List ℕ} {calls : List Call} → Accepted s → HostedAll s calls → gaps (problemOf s) (cellsOf s) < budgetsIn calls →
+    solved (startCell s (left s calls)) ≡ true
+host-ends acc made = work-ends acc (host-calls acc made)

@@ -1,11 +1,11 @@
--- What the host's function returns and leaves: document 01's host paragraph. The table passes as bytes, four an entry, least significant first.
+-- S9: what the host's function returns and leaves. The table passes as bytes, four an entry, least significant first (S9.2).
 use Prim.Native.Nat.{ℕ, zero, suc, _*_, _/_, _%_}
 use mathlib.Core.Bool.{Bool}
 use mathlib.Core.List.{List, [], _∷_, _++_}
 use lib.Dec.{leb}
 use lib.ListN.{length, drop, replicate}
 use Rattle.model.specs.Tests.{fork}
-use Rattle.model.specs.Questions.{maxStates}
+use Rattle.model.specs.Limits.{maxStates}
 use Rattle.model.specs.Report.{number, answerTo, bytesAfter, tableAfter}
 
 -- numbers, least significant byte first
@@ -30,9 +30,12 @@ lengthened (x ∷ xs) (suc n) = x ∷ lengthened xs n
 abbrev pub entries : List ℕ → ℕ
 entries t = length t / 4
 
--- has the result room for price, passes and raises?
+-- S9.5: price, passes and raises take this many bytes of the result. Has it room for them?
+abbrev pub resultBytes : ℕ
+resultBytes = 24
+
 abbrev pub room : List ℕ → Bool
-room r = leb 24 (length r)
+room r = leb resultBytes (length r)
 
 -- the number returned: a refusal's own, 1 too where the result is too short, or 100 settled, 101 over, 102 stopped
 unfoldable pub hostNumber : List ℕ → List ℕ → ℕ → List ℕ → ℕ
@@ -42,16 +45,20 @@ hostNumber s t budget r = fork (room r) (λ _. number (answerTo s (entries t) bu
 unfoldable pub hostSheet : List ℕ → List ℕ → ℕ → List ℕ → List ℕ
 hostSheet s t budget r = fork (room r) (λ _. bytesAfter s (entries t) budget) (λ _. s)
 
--- the table's bytes after: unaltered where it is too short, else each entry's four bytes, with up to three bytes left over at the end untouched
+-- the table's bytes after: unaltered where it is too short, else each entry's four bytes, with up to three bytes left over at the end
+-- untouched
 unfoldable pub hostTable : List ℕ → List ℕ → ℕ → List ℕ → List ℕ
 hostTable s t budget r =
     fork (room r)
-    (λ _. fork (leb maxStates (entries t)) (λ _. entryBytes (tableAfter s (replicate (entries t) 0) budget) ++ drop (4 * entries t) t) (λ _. t))
+    (λ _. fork (leb maxStates (entries t))
+    (λ _. entryBytes (tableAfter s (replicate (entries t) 0) budget) ++ drop (4 * entries t) t)
+    (λ _. t))
     (λ _. t)
 
 -- the result's bytes after: price, passes and raises in the first 24, the rest untouched
 unfoldable pub hostResult : List ℕ → List ℕ → ℕ → List ℕ → List ℕ
 hostResult s t budget r =
     fork (room r)
-    (λ _. (le64 (answerTo s (entries t) budget .price) ++ (le64 (answerTo s (entries t) budget .passes) ++ le64 (answerTo s (entries t) budget .raises))) ++ drop 24 r)
+    (λ _. (le64 (answerTo s (entries t) budget .price) ++
+    (le64 (answerTo s (entries t) budget .passes) ++ le64 (answerTo s (entries t) budget .raises))) ++ drop resultBytes r)
     (λ _. r)

@@ -3,35 +3,33 @@ ghost use mathlib.Core.Path.{_≡_};
 ghost use mathlib.Core.List.{_++_};
 ghost use Prim.Native.Nat.{_+_, _*_, _%_, _<_, _≤_};
 ghost use lib.ListN.{length, getD, drop};
-ghost use Rattle.model.specs.Questions.{maxStates};
+ghost use Rattle.model.specs.Limits.{maxStates};
 ghost use Rattle.model.specs.Report.{number};
 ghost use Rattle.layout.specs.Placed.{placed};
-ghost use Rattle.host.specs.Host.{le32, le64, entries, entryBytes, lengthened, hostNumber, hostSheet, hostTable, hostResult};
+ghost use Rattle.host.specs.Host.{le32, le64, resultBytes, entries, entryBytes, lengthened};
+ghost use Rattle.host.specs.Host.{hostNumber, hostSheet, hostTable, hostResult};
 use ldfs::refusal;
 use ldfs::solve_zeroed;
 use model::Answer;
 use model::MAX_STATES;
 use model::Outcome;
+use model::ROOM;
+use sheet::convert::long_to_byte;
 
-// The fewest bytes of a table.
+// The fewest bytes of a table (S9.2), and of a result (S9.5): price, passes and raises, eight bytes each.
 const TABLE_BYTES: usize = 4 * MAX_STATES;
 
-// The low eight bits of a number.
-fn low(x: u64) -> u8
-    ensures { λ r. ⌜ r ≡ x % 256 ⌝ }
-{
-    (x % 256) as u8
-}
+const RESULT_BYTES: usize = 24;
 
 // Four bytes of a slice become a number, least significant first.
 fn put32(s: &mut [u8], at: usize, x: u64)
     requires { ⌜ (at + 4 ≤ length (now s)) × (x < 4294967296) ⌝ }
     ensures { λ _. ⌜ now (s .exit) ≡ placed at (le32 x) (now (s .entry)) ⌝ }
 {
-    s[at] = low(x);
-    s[at + 1] = low(x / 256);
-    s[at + 2] = low(x / 65536);
-    s[at + 3] = low(x / 16777216);
+    s[at] = long_to_byte(x);
+    s[at + 1] = long_to_byte(x / 256);
+    s[at + 2] = long_to_byte(x / 65536);
+    s[at + 3] = long_to_byte(x / 16777216);
 }
 
 // Eight bytes of a slice become a number, least significant first.
@@ -45,7 +43,7 @@ fn put64(s: &mut [u8], at: usize, x: u64)
 
 // Price, passes and raises become the first 24 bytes of the result.
 fn put_answer(result: &mut [u8], a: Answer)
-    requires { ⌜ 24 ≤ length (now result) ⌝ }
+    requires { ⌜ resultBytes ≤ length (now result) ⌝ }
     ensures { λ _. ⌜ now (result .exit) ≡ placed 0 (le64 (a .price) ++ (le64 (a .passes) ++ le64 (a .raises))) (now (result .entry)) ⌝ }
 {
     put64(result, 0, a.price);
@@ -91,7 +89,7 @@ fn outcome_number(o: Outcome) -> u32
     }
 }
 
-// Works a sheet. See include/ldfs.h. Whatever the slices hold, they are left as document 01 says, and the number says how the call ended.
+// Works a sheet (S9; include/ldfs.h). Whatever the slices hold, they are left as S9 says, and the number says how the call ended.
 #[no_mangle]
 pub extern "C" fn ldfs_solve(
     sheet: &mut [u8],
@@ -104,12 +102,12 @@ pub extern "C" fn ldfs_solve(
     ensures table { λ _. ⌜ now (table .exit) ≡ hostTable (now (sheet .entry)) (now (table .entry)) budget (now (result .entry)) ⌝ }
     ensures result { λ _. ⌜ now (result .exit) ≡ hostResult (now (sheet .entry)) (now (table .entry)) budget (now (result .entry)) ⌝ }
 {
-    if result.len() < 24 {
-        return 1;
+    if result.len() < RESULT_BYTES {
+        return ROOM;
     }
     if table.len() < TABLE_BYTES {
-        put_answer(result, refusal(1, budget));
-        return 1;
+        put_answer(result, refusal(ROOM, budget));
+        return ROOM;
     }
     let mut index = [0u32; MAX_STATES];
     let a = solve_zeroed(sheet, &mut index, budget);

@@ -7,15 +7,17 @@ use native.Mathlib.Omega.{arith}
 use borrow.Author.Tests.{eq-eqb, ne-eqb, le-leb, lt-ltb}
 use lib.ListN.{length, getD, drop, length-append}
 use lib.Seq.{drop-at, drop-drop}
-use Rattle.model.specs.Tests.{also, all, true-all}
+use Rattle.model.proofs.TestLaws.{true-all}
+use Rattle.model.specs.Tests.{also, all}
 use Rattle.model.specs.Problem.{Kind, worst, whole, Action, Node, terminal, decision, Problem, Cell, cell, states, cellOf}
 use Rattle.model.specs.Format.{be16, be32, actionTag, actionLength, successorsBytes, actionBytes, actionsBytes, nodeBytes}
 use Rattle.model.specs.Format.{nodesBytes, kindByte, write}
-use Rattle.model.specs.Read.{maxActions, actionFits, successorsRead, actionRead, actionsGood, actionsRead, actionsLong}
+use Rattle.model.specs.Limits.{maxActions}
+use Rattle.model.specs.Read.{actionFits, successorsRead, actionRead, actionsGood, actionsRead, actionsLong}
 use Rattle.model.specs.Read.{pastActions, terminalFits, headerFits, decisionFits, nodesGood, nodesRead, cellsRead, kindOf}
 use Rattle.model.specs.Read.{problemOf, cellsOf}
 use Rattle.model.specs.Questions.{question3, question4}
-use Rattle.layout.specs.Shape.{Few, ActionsShaped, NodesShaped, ChosenShaped, Shaped}
+use Rattle.layout.specs.Shape.{FewSuccessors, ActionsShaped, NodesShaped, ChosenShaped, Shaped}
 use Rattle.layout.proofs.Bytes.{two, four}
 use Rattle.layout.proofs.Places.{action-length, no-action}
 
@@ -50,7 +52,7 @@ module _ (a : Action) (r : List ℕ) where
       let n : (actionLength a - 4) / 2 ≡ length (a .successors) = omega arith in
       rw (content, n, successors-back (a .successors) r, four (a .cost))
 
-  pub action-fits : Few (a .successors) → actionFits (actionBytes a ++ r) ≡ true
+  pub action-fits : FewSuccessors (a .successors) → actionFits (actionBytes a ++ r) ≡ true
   unfolding actionFits
   action-fits few = let c = content in true-all _ (omega (arith, le-leb, eq-eqb, action-length a, length-append (actionBytes a) r))
 

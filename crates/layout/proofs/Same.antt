@@ -9,15 +9,17 @@ use lib.Dec.{eqb}
 use borrow.Author.Tests.{eqb-true, leb-true, ltb-true}
 use lib.ListN.{length, getD, drop, length-drop, drop-of-length-le}
 use lib.Seq.{drop-drop, drop-cons, getD-drop}
-use Rattle.model.specs.Tests.{also-true, all-true}
+use Rattle.model.proofs.TestLaws.{also-true, all-true}
 use Rattle.model.specs.Problem.{Node, terminal, decision, Cell, cell, cellOf}
 use Rattle.model.specs.Format.{Bytes, be16, be32, headTag, terminalTag, decisionTag, actionTag, headLength, terminalLength}
+use Rattle.model.specs.Format.{minActionLength, maxActionLength}
 use Rattle.model.specs.Format.{decisionLength, successorsBytes, actionBytes, actionsBytes, nodeBytes, nodesBytes, kindByte, write}
-use Rattle.model.specs.Read.{maxActions, tag, actionFits, successorsRead, actionRead, actionsGood, actionsRead, actionsLong}
+use Rattle.model.specs.Limits.{maxActions, maxStates}
+use Rattle.model.specs.Read.{tag, actionFits, successorsRead, actionRead, actionsGood, actionsRead, actionsLong}
 use Rattle.model.specs.Read.{pastActions, terminalFits, headerFits, decisionFits, nodesGood, nodesRead, cellsRead, kindOf}
 use Rattle.model.specs.Read.{problemOf, cellsOf}
-use Rattle.model.specs.Questions.{maxStates, question3, question4}
-use Rattle.layout.specs.Shape.{Few, ActionsShaped, NodeShaped, NodesShaped, ChosenShaped, Shaped}
+use Rattle.model.specs.Questions.{question3, question4}
+use Rattle.layout.specs.Shape.{FewSuccessors, ActionsShaped, NodeShaped, NodesShaped, ChosenShaped, Shaped}
 
 bytes-drop : (k : ℕ) (bs : List ℕ) → Bytes bs → Bytes (drop k bs)
 bytes-drop k bs byte i = rw getD-drop (byte (k + i))
@@ -67,11 +69,12 @@ successors-same (suc n) r byte le =
     peel 2 0 r (omega arith) ∙ cc (drop-drop (2 * n) 2 r)
 
 -- what an action's field that fits says of its content's length
-pub action-parts : (r : List ℕ) → actionFits r ≡ true → (6 ≤ be16 r 1) × (be16 r 1 ≤ 36) × (be16 r 1 % 2 ≡ 0) × (3 + be16 r 1 ≤ length r)
+pub action-parts : (r : List ℕ) → actionFits r ≡ true →
+    let n = be16 r 1 in (minActionLength ≤ n) × (n ≤ maxActionLength) × (n % 2 ≡ 0) × (3 + n ≤ length r)
 unfolding actionFits
 action-parts r fits = omega (arith, leb-true, eqb-true, all-true _ fits)
 
-action-few : (r : List ℕ) → actionFits r ≡ true → Few (actionRead r .successors)
+action-few : (r : List ℕ) → actionFits r ≡ true → FewSuccessors (actionRead r .successors)
 unfolding actionRead
 action-few r fits = simp successors-count (omega (arith, action-parts r fits))
 

@@ -7,17 +7,18 @@ use native.Mathlib.Omega.{arith}
 use borrow.Author.Tests.{ltb-true}
 use lib.Dec.{ltb}
 use lib.ListN.{length, getD}
-use Rattle.model.specs.Tests.{all, also-true, all-true}
+use Rattle.model.proofs.TestLaws.{also-true, all-true}
+use Rattle.model.specs.Tests.{all}
 use Rattle.model.specs.Problem.{Action, Node, terminal, actionAt, _∈_, here, there}
 use Rattle.model.specs.Questions.{ascending}
-use Rattle.layout.specs.Shape.{Few, ActionsShaped, NodeShaped, NodesShaped}
+use Rattle.layout.specs.Shape.{FewSuccessors, ActionsShaped, NodeShaped, NodesShaped}
 
 pub node-shaped : (ns : List Node) → NodesShaped ns → (s : ℕ) → NodeShaped (getD ns s (terminal 0))
 node-shaped [] h s = tt
 node-shaped (n ∷ ns) h zero = h .0
 node-shaped (n ∷ ns) h (suc s) = node-shaped ns (h .1) s
 
-pub action-shaped : (acts : List Action) (k : ℕ) → k < length acts → ActionsShaped acts → Few (actionAt acts k .successors)
+pub action-shaped : (acts : List Action) (k : ℕ) → k < length acts → ActionsShaped acts → FewSuccessors (actionAt acts k .successors)
 action-shaped [] k lt h = absurd (omega arith)
 action-shaped (a ∷ more) zero lt h = h .0
 action-shaped (a ∷ more) (suc k) lt h = action-shaped more k (omega arith) (h .1)

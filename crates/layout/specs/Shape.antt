@@ -4,19 +4,23 @@ use mathlib.Core.Path.{_≡_}
 use mathlib.Core.List.{List, [], _∷_}
 use lib.ListN.{length, set}
 use Rattle.model.specs.Problem.{Action, Node, terminal, decision, Problem, Cell, cell, states, nodeAt, cellOf}
-use Rattle.model.specs.Questions.{maxStates}
+use Rattle.model.specs.Limits.{maxStates, maxActions, maxSuccessors}
 
-abbrev pub Few : {A : Type 0} → List A → Type 0
-Few xs = (1 ≤ length xs) × (length xs ≤ 16)
+-- an action has 1 to 16 successors, a decision 1 to 16 actions
+abbrev pub FewSuccessors : List ℕ → Type 0
+FewSuccessors ts = (1 ≤ length ts) × (length ts ≤ maxSuccessors)
+
+abbrev pub FewActions : List Action → Type 0
+FewActions acts = (1 ≤ length acts) × (length acts ≤ maxActions)
 
 abbrev pub ActionsShaped : List Action → Type 0
 ActionsShaped [] = Unit {0}
-ActionsShaped (a ∷ more) = Few (a .successors) × ActionsShaped more
+ActionsShaped (a ∷ more) = FewSuccessors (a .successors) × ActionsShaped more
 
 -- a decision has 1 to 16 actions, each with 1 to 16 successors
 abbrev pub NodeShaped : Node → Type 0
 NodeShaped (terminal cost) = Unit {0}
-NodeShaped (decision acts) = Few acts × ActionsShaped acts
+NodeShaped (decision acts) = FewActions acts × ActionsShaped acts
 
 abbrev pub NodesShaped : List Node → Type 0
 NodesShaped [] = Unit {0}

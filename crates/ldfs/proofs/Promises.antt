@@ -1,29 +1,34 @@
 -- The promises of the code, in one place: the verdict of `check`, and the demands of calls of `solve`.
-use Prim.Native.Nat.{ℕ, zero, suc}
+use Prim.Native.Nat.{ℕ, zero, suc, _<_}
 use mathlib.Core.Path.{_≡_, refl}
+use mathlib.Core.Bool.{true}
 use mathlib.Core.List.{List}
 use lib.ListN.{length}
 use Rattle.model.specs.declared.Answer.{Answer}
+use Rattle.model.specs.Problem.{solved}
 use Rattle.model.specs.Format.{Bytes}
+use Rattle.model.specs.Read.{problemOf, cellsOf}
+use Rattle.model.specs.Optimal.{gaps}
 use Rattle.model.specs.Questions.{checkQuestions, sheetRefusal}
-use Rattle.model.specs.Calls.{Call, callOf, callOn, Calls, none as no-call}
-use Rattle.model.specs.Demands.{Accepted, Demand1, Demand2, Demand3}
+use Rattle.model.specs.Calls.{Call, callOf, callOn, Calls, none as no-call, left, budgetsIn}
+use Rattle.model.specs.Demands.{Accepted, startCell, Demand1, Demand2, Demand3}
 use Rattle.theory.proofs.Refusals.{first-is, none-is}
 use Rattle.theory.proofs.Called.{made-call}
-use Rattle.theory.proofs.Demands.{demand1, demand2, demand3}
+use Rattle.theory.proofs.Demands.{demand1, demand2, demand3, work-ends}
 use Rattle.questions.specs.declared.Verdict.{Verdict}
-use Rattle.questions.specs.Verdicts.{verdictNumber, verdict, VerdictSays, accepted, refused, verdict-number}
+use Rattle.questions.specs.Verdicts.{verdictNumber, verdict, VerdictSays, accepted, refused}
+use Rattle.questions.proofs.Asking.{verdict-number}
 use Rattle.ldfs.specs.Made.{Solved, SolvedAll, none, one}
 
--- The verdict of `check`, by what its contract ensures, in document 01's number.
+-- The verdict of `check`, by what its contract ensures, in the numbers of S4.
 pub check-answers : (s : List ℕ) (entries : ℕ) {v : Verdict} → v ≡ verdict (sheetRefusal s entries) →
     VerdictSays s entries (verdictNumber v)
 unfolding sheetRefusal
 check-answers s entries e = rw (e, verdict-number) (go (sheetRefusal s entries) refl)
   where
     go : (n : ℕ) → sheetRefusal s entries ≡ n → VerdictSays s entries n
-    go zero z = accepted (none-is (checkQuestions s entries) z) refl
-    go (suc k) z = refused k (first-is (checkQuestions s entries) k z) refl
+    go zero z = accepted (none-is (checkQuestions s entries) refl z) refl
+    go (suc k) z = refused (first-is (checkQuestions s entries) k z)
 
 -- One call, on the bytes s with the table t and a budget, that returned r and left the bytes s′ and the table t′.
 module _ (s t : List ℕ) (budget : ℕ) {s′ t′ : List ℕ} {r : Answer} (m : Solved s t budget r s′ t′) where
@@ -46,3 +51,8 @@ solved-calls (one t budget m rest) = made-call (length t) budget (solved-call _ 
 
 pub solve-keeps : {s : List ℕ} {calls : List Call} → Accepted s → SolvedAll s calls → Demand3 s calls
 solve-keeps acc made = demand3 acc (solved-calls made)
+
+-- S8.11: budgets above the gaps at the outset leave the start settled
+pub solve-ends : {s : List ℕ} {calls : List Call} → Accepted s → SolvedAll s calls → gaps (problemOf s) (cellsOf s) < budgetsIn calls →
+    solved (startCell s (left s calls)) ≡ true
+solve-ends acc made = work-ends acc (solved-calls made)

@@ -14,9 +14,10 @@ use Rattle.model.specs.Tests.{fork}
 use Rattle.model.specs.Problem.{Cell, states, cellOf, valueOf, solved}
 use Rattle.model.specs.Format.{Bytes, be16, offset, write}
 use Rattle.model.specs.Read.{problemOf, cellsOf}
-use Rattle.model.specs.QValue.{ceiling}
-use Rattle.model.specs.Questions.{maxStates, question1, question9, Question, sheetQuestions, checkQuestions, firstNo, sheetRefusal}
-use Rattle.model.specs.Questions.{refusal, accepted, AllYes, none-no, all-yes}
+use Rattle.model.specs.Limits.{ceiling, maxStates}
+use Rattle.model.specs.Questions.{question1, question9, Question, question, sheetQuestions, checkQuestions, firstNo, sheetRefusal}
+use Rattle.model.proofs.QuestionLaws.{AllYes, none-no, all-yes, first-from}
+use Rattle.model.specs.Questions.{refusal, accepted}
 use Rattle.model.specs.Ldfs.{Search, searchOf, work}
 use Rattle.model.specs.Report.{outcomeOf, cellsAfter, raisesOf, refused, onRefusal, answerTo, bytesAfter, refusedTable, tableAfter}
 use Rattle.layout.proofs.Index.{offsets-count}
@@ -27,7 +28,7 @@ use Rattle.sheet.proofs.Laws.{indexed, nine-room}
 use Rattle.questions.specs.declared.Verdict.the-variants.{Accepted, Refused as RefusedBy}
 use Rattle.questions.specs.Verdicts.{verdict}
 use Rattle.questions.specs.Put.{indexedBefore, askedTable}
-use Rattle.questions.proofs.Asking.{first-from, cleared, cleared-zeros, cleared-length, from-cleared}
+use Rattle.questions.proofs.Asking.{cleared, cleared-zeros, cleared-length, from-cleared}
 use Rattle.search.specs.declared.visits.Way.{Way}
 use Rattle.search.specs.declared.visits.Way.the-variants.{Success, Failure, Halt}
 use Rattle.search.specs.declared.passes.Passes.{Passes as PassesMade}
@@ -88,13 +89,13 @@ module _ (c : Cell) {marked : Bool} {price : ℕ} (mark : marked ≡ solved c) (
   stopped e = rw (← mark, e)
 
 -- The verdict, and the refusal of the call.
-refused-more : (n : ℕ) (asked more : List Question) (k : ℕ) → firstNo n asked ≡ suc k → firstNo n (asked ++ more) ≡ suc k
+refused-more : (asked more : List Question) (k : ℕ) → firstNo asked ≡ suc k → firstNo (asked ++ more) ≡ suc k
 unfolding firstNo
-refused-more n [] more k h = absurd (omega arith)
-refused-more n (ask ∷ asked) more k h = go (ask tt) refl (refused-more (suc n) asked more k)
+refused-more [] more k h = absurd (omega arith)
+refused-more (ask ∷ asked) more k h = go (ask .answer tt) refl (refused-more asked more k)
   where
-    go : (b : Bool) → ask tt ≡ b → (firstNo (suc n) asked ≡ suc k → firstNo (suc n) (asked ++ more) ≡ suc k) →
-        firstNo n ((ask ∷ asked) ++ more) ≡ suc k
+    go : (b : Bool) → ask .answer tt ≡ b → (firstNo asked ≡ suc k → firstNo (asked ++ more) ≡ suc k) →
+        firstNo ((ask ∷ asked) ++ more) ≡ suc k
     go true e ih = rw e (ih (rw e at h))
     go false e ih = rw e (rw e at h)
 
@@ -120,7 +121,7 @@ module _ (s t : List ℕ) (budget : ℕ) where
       go zero z v = let f : _≡_ {A = ℕ} 0 1 = cc in absurd (omega arith)
       go (suc k) z v =
           let same : n ≡ suc k = cc in
-          let no = refused-more 1 (checkQuestions s (length t)) ((λ _. question9 budget) ∷ []) k z in
+          let no = refused-more (checkQuestions s (length t)) (question 9 (λ _. question9 budget) ∷ []) k z in
           refused-call k no r (a ∙ ap (refused budget) same) t′ (last ∙ rw z)
 
   -- accepted by questions 1 to 8
@@ -135,11 +136,11 @@ module _ (s t : List ℕ) (budget : ℕ) where
 
     yes : AllYes (checkQuestions s (length t))
     unfolding sheetRefusal
-    yes = none-no 0 (checkQuestions s (length t)) none
+    yes = none-no (checkQuestions s (length t)) refl none
 
     stands : Stands s (problemOf s) (cellsOf s)
     unfolding accepted
-    stands = accepted-stands s byte (eq-eqb _ _ (all-yes 2 (sheetQuestions s) (yes .1)))
+    stands = accepted-stands s byte (eq-eqb _ _ (all-yes (sheetQuestions s) (yes .1)))
 
     by-budget : refusal s (length t) budget ≡ fork (question9 budget) (λ _. 0) (λ _. 9)
     by-budget = refusals-left s (problemOf s) (cellsOf s) stands (length t) budget ∙ rw (yes .0)
@@ -185,7 +186,7 @@ module _ (s t : List ℕ) (budget : ℕ) where
     -- question 1 does not refuse
     number : (refusal s (length t) budget ≡ 0) ⊎ (2 ≤ refusal s (length t) budget)
     unfolding refusal firstNo question1
-    number = rw (le-leb maxStates (length t) ge) (first-from 2 (sheetQuestions s ++ ((λ _. question9 budget) ∷ [])))
+    number = rw (le-leb maxStates (length t) ge) (first-from 2 (sheetQuestions s ++ (question 9 (λ _. question9 budget) ∷ [])) refl)
 
     pub from-zeros : {r : Answer} {s′ t′ : List ℕ} → Filled s (cleared t) budget r s′ t′ → Solved s t budget r s′ t′
     unfolding filledTable tableAfter

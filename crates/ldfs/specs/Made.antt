@@ -18,7 +18,7 @@ pub record Finished (s s′ : List ℕ) (r : Answer) (budget : ℕ) : Type 0 whe
   pub bytes : s′ ≡ write (problemOf s) (cellsAfter (work (problemOf s) (cellsOf s) budget))
   pub said : r ≡ finished (problemOf s) budget (work (problemOf s) (cellsOf s) budget)
 
--- the table's content after `solve_zeroed`: what stood past an accepted sheet's last stage stays there
+-- the table's content after `solve_zeroed`: what stood past an accepted sheet's last state stays there
 unfoldable pub filledTable : List ℕ → List ℕ → ℕ → List ℕ
 filledTable s t budget = onRefusal (refusal s (length t) budget) (λ _. indexedBefore s t) (refusedTable t)
 

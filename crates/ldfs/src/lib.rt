@@ -8,18 +8,21 @@ ghost use Rattle.sheet.specs.Sheet.{Within};
 ghost use Rattle.search.specs.Did.{Workable};
 ghost use Rattle.ldfs.specs.Made.{Finished, filledTable};
 use model::Answer;
+use model::BUDGET;
 use model::LONG_CEILING;
 use model::MAX_STATES;
 use model::Outcome;
+use model::ROOM;
+use model::format;
 use questions::Verdict;
 use questions::ask;
 use questions::clear;
 use search::passes::work;
+use sheet::convert::word_to_index;
+use sheet::convert::word_to_long;
 use sheet::fields::solved_at;
 use sheet::fields::value_at;
 use sheet::numbers::get16;
-use sheet::numbers::long;
-use sheet::numbers::place;
 
 // The answer of a call with a budget that is refused by a question's number.
 pub fn refusal(n: u32, budget: u64) -> Answer
@@ -55,9 +58,9 @@ fn finish(sheet: &mut [u8], table: &[u32], budget: u64) -> Answer
     requires { ⌜ Workable (now sheet) ⌝ }
     ensures { λ r. ⌜ Finished (now (sheet .entry)) (now (sheet .exit)) r budget ⌝ }
 {
-    let start = place(get16(sheet, 6));
+    let start = word_to_index(get16(sheet, format::START_IN));
     let w = work(sheet, table, start, budget);
-    let price = long(value_at(sheet, table, start));
+    let price = word_to_long(value_at(sheet, table, start));
     Answer {
         outcome: outcome(solved_at(sheet, table, start), price),
         price,
@@ -67,7 +70,7 @@ fn finish(sheet: &mut [u8], table: &[u32], budget: u64) -> Answer
     }
 }
 
-// Works any bytes as a sheet, with any table and any budget, as `solve` does, but the entries past an accepted sheet's last stage stay as
+// Works any bytes as a sheet, with any table and any budget, as `solve` does, but the entries past an accepted sheet's last state stay as
 // they are: for a table that is known to be zero it is `solve` without the clearing.
 pub fn solve_zeroed(sheet: &mut [u8], table: &mut [u32], budget: u64) -> Answer
     ensures answer { λ r. ⌜ r ≡ answerTo (now (sheet .entry)) (length (now (table .entry))) budget ⌝ }
@@ -80,7 +83,7 @@ pub fn solve_zeroed(sheet: &mut [u8], table: &mut [u32], budget: u64) -> Answer
         Verdict::Accepted => {
             if budget == 0 {
                 clear(table, 0);
-                refusal(9, budget)
+                refusal(BUDGET, budget)
             } else {
                 finish(sheet, table, budget)
             }
@@ -89,14 +92,14 @@ pub fn solve_zeroed(sheet: &mut [u8], table: &mut [u32], budget: u64) -> Answer
 }
 
 // Works any bytes as a sheet, with any table and any budget. What it answers, and what it leaves in the sheet and in the table, is what
-// document 01's questions and procedure give: for every input, refused or not.
+// the questions (S4), the procedure (S6) and S5, S7 give: for every input, refused or not.
 pub fn solve(sheet: &mut [u8], table: &mut [u32], budget: u64) -> Answer
     ensures answer { λ r. ⌜ r ≡ answerTo (now (sheet .entry)) (length (now (table .entry))) budget ⌝ }
     ensures sheet { λ _. ⌜ now (sheet .exit) ≡ bytesAfter (now (sheet .entry)) (length (now (table .entry))) budget ⌝ }
     ensures table { λ _. ⌜ now (table .exit) ≡ tableAfter (now (sheet .entry)) (now (table .entry)) budget ⌝ }
 {
     if table.len() < MAX_STATES {
-        return refusal(1, budget);
+        return refusal(ROOM, budget);
     }
     clear(table, 0);
     solve_zeroed(sheet, table, budget)

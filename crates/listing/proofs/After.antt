@@ -55,7 +55,8 @@ module _ (s t : List ℕ) (budget : ℕ) (bytes : Bytes s) where
 
 -- what `list` promises of its answer, of the sheet, of the table and of the buffer
 abbrev Leaves : List ℕ → List ℕ → List ℕ → Listed → List ℕ → List ℕ → List ℕ → Type 0
-Leaves s t out r s′ t′ out′ = (r ≡ listedAs s t out) × ((s′ ≡ sheetListed s t out) × ((t′ ≡ tableListed s t out) × (out′ ≡ textListed s t out)))
+Leaves s t out r s′ t′ out′ =
+    (r ≡ listedAs s t out) × ((s′ ≡ sheetListed s t out) × ((t′ ≡ tableListed s t out) × (out′ ≡ textListed s t out)))
 
 module _ (s t out : List ℕ) where
   pub too-short : length out < enough → Leaves s t out TooShort s t out
@@ -63,8 +64,10 @@ module _ (s t out : List ℕ) where
   too-short h = rw (lt-leb enough (length out) h) (refl, (refl, (refl, refl)))
 
   pub written : enough ≤ length out → (a : Answer) (s′ t′ : List ℕ) → Solved s t largest a s′ t′ → {mid out′ : List ℕ} {next end : ℕ} →
-      Wrote out mid 0 next (lineOne a) → Wrote mid out′ next end (planOf (a .outcome) s′) → Leaves s t out (Written end) s′ t′ out′
+      Wrote out mid 0 next (lineOne a) → Wrote mid out′ next end (planOf (a .outcome) s′) →
+      Leaves s t out (Written end (a .outcome)) s′ t′ out′
   unfolding listedAs sheetListed tableListed textListed listing
   written long a s′ t′ h {mid} {out′} {next} {end} v w =
       let u = wrote-behind v w in
-      rw (le-leb enough (length out) long, ← (h .0), ← (h .1 .0), ← (h .1 .1)) (ap Written (u .behind ∙ zero-add _), (refl, (refl, u .bytes ∙ rw zero-add)))
+      rw (le-leb enough (length out) long, ← (h .0), ← (h .1 .0), ← (h .1 .1))
+      (ap (λ (n : ℕ). Written n (a .outcome)) (u .behind ∙ zero-add _), (refl, (refl, u .bytes ∙ rw zero-add)))

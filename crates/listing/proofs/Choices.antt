@@ -1,4 +1,4 @@
--- A stage's line, by what stands at it.
+-- A state's line, by what stands at it.
 use Prim.Native.Nat.{ℕ}
 use mathlib.Core.Path.{_≡_}
 use mathlib.Core.List.{List}
@@ -14,5 +14,6 @@ module _ {s t : List ℕ} {i : ℕ} (c : Cell) {out out′ : List ℕ} {at next 
   pub wrote-end : Terminal s t i → Wrote out out′ at next (ascii " end") → Wrote out out′ at next (choiceOf (nodeAt (problemOf s) i) c)
   wrote-end h w = rw (is-terminal (nodeAt (problemOf s) i) (h .tag)) w
 
-  pub wrote-check : Decision s t i → (x : ℕ) → x ≡ c .chosen → Wrote out out′ at next (field (ascii " check ") x) → Wrote out out′ at next (choiceOf (nodeAt (problemOf s) i) c)
+  pub wrote-check : Decision s t i → (x : ℕ) → x ≡ c .chosen → Wrote out out′ at next (field (ascii " check ") x) →
+      Wrote out out′ at next (choiceOf (nodeAt (problemOf s) i) c)
   wrote-check h x e w = rw (is-decision (nodeAt (problemOf s) i) (h .tag), ← e) w

@@ -3,3 +3,5 @@ pub mod Reaching
 pub mod Choices
 pub mod After
 pub mod Promises
+pub mod Answers
+pub mod Printed

@@ -1,5 +1,5 @@
 -- The promises of a listing: its price is the least cost, and the stages that it has lines for are those that the plan reaches.
-use Prim.Native.Nat.{ℕ, zero, suc, _≤_}
+use Prim.Native.Nat.{ℕ, zero, suc, _<_, _≤_}
 use mathlib.Core.Path.{_≡_, refl, sym, subst}
 use mathlib.Core.Bool.{Bool, true, false, _||_}
 use mathlib.Core.Logic.{_⊎_, inl, inr, ⊎-elim}
@@ -9,24 +9,23 @@ use native.Mathlib.Nat.{eq-or-lt-of-le}
 use borrow.Author.Tests.{eqb-true, eq-eqb}
 use lib.Dec.{eqb}
 use Rattle.model.specs.declared.Answer.{Answer}
-use Rattle.model.specs.Tests.{never, also-true, true-also}
+use Rattle.model.proofs.TestLaws.{never, also-true, true-also}
 use Rattle.model.specs.Problem.{Node, terminal, decision, Problem, Cell, states, nodeAt, actionAt, cellOf, _∈_, here, there}
 use Rattle.model.specs.Format.{Bytes}
 use Rattle.model.specs.Read.{problemOf, cellsOf}
-use Rattle.model.specs.QValue.{ceiling}
+use Rattle.model.specs.Limits.{ceiling}
 use Rattle.model.specs.Questions.{questions, First}
 use Rattle.model.specs.Policy.{Reach, arrived, onward, written}
 use Rattle.model.specs.Report.{number, largest, answerTo, bytesAfter}
 use Rattle.model.specs.Demands.{startCost}
 use Rattle.theory.specs.Consistent.{WellFormed}
-use Rattle.theory.proofs.Refusals.{first-refuses}
 use Rattle.theory.proofs.Sheets.{accepted-stands}
-use Rattle.theory.proofs.Called.{answer-refused}
+use Rattle.theory.proofs.Called.{answer-first}
 use Rattle.theory.proofs.Promises.{problem-of, still-a-sheet, raises-small}
 use Rattle.theory.proofs.Outcomes.{numbered}
 use Rattle.theory.proofs.Demands.{demand2, worked-accepted}
 use Rattle.listing.specs.Text.{ascii}
-use Rattle.listing.specs.Listing.{field, findingsOf, findings, listed, reachedBelow, reached, stateLines, listing}
+use Rattle.listing.specs.Listing.{field, chosenSuccessorsOf, chosenSuccessors, listed, reachedBelow, reached, stateLines, listing}
 
 -- a test or another
 or-true : (a b : Bool) → (a || b) ≡ true → (a ≡ true) ⊎ (b ≡ true)
@@ -59,10 +58,10 @@ ListedAsReached p cells t =
 
 module _ (p : Problem) (cells : List Cell) where
   -- one step more, at the end
-  step : (s t : ℕ) → Reach p (written cells) s t → (u : ℕ) → u ∈ findings p cells t → Reach p (written cells) s u
+  step : (s t : ℕ) → Reach p (written cells) s t → (u : ℕ) → u ∈ chosenSuccessors p cells t → Reach p (written cells) s u
   step s t arrived u m = go (nodeAt p t) refl m
     where
-      go : (n : Node) → nodeAt p t ≡ n → u ∈ findingsOf n (cellOf cells t) → Reach p (written cells) t u
+      go : (n : Node) → nodeAt p t ≡ n → u ∈ chosenSuccessorsOf n (cellOf cells t) → Reach p (written cells) t u
       go (terminal cost) e m = absurd (elim m [ ])
       go (decision acts) e m = onward e refl m arrived
   step s t (onward e i v r) u m = onward e i v (step _ t r u m)
@@ -72,7 +71,7 @@ module _ (p : Problem) (cells : List Cell) where
   reached-reach zero t h = rw (eqb-true t (p .start) h) arrived
   reached-reach (suc n) t h =
       ⊎-elim (λ e. reached-reach n t e)
-      (λ e. let g = also-true _ _ e in step (p .start) n (reached-reach n n (g .0)) t (listed-in t (findings p cells n) (g .1)))
+      (λ e. let g = also-true _ _ e in step (p .start) n (reached-reach n n (g .0)) t (listed-in t (chosenSuccessors p cells n) (g .1)))
       (or-true (reachedBelow p cells n t) _ h)
 
   -- what is reached stays so when more stages are looked at
@@ -86,13 +85,16 @@ module _ (p : Problem) (cells : List Cell) where
     onwards : {s t : ℕ} → Reach p (written cells) s t → reached p cells s ≡ true → reached p cells t ≡ true
     unfolding reachedBelow
     onwards arrived h = h
-    onwards (onward {s} {u} {t} {i} {acts} e c v r) h = onwards r (more (suc s) u next u (wf .forward s (cellOf cells s .chosen) u acts e m .0))
+    onwards (onward {s} {u} {t} {i} {acts} e c v r) h = onwards r (more (suc s) u next u later)
       where
         m : u ∈ actionAt acts (cellOf cells s .chosen) .successors
         m = let same : cellOf cells s .chosen ≡ i = cc in rw same v
 
-        found : u ∈ findings p cells s
-        found = subst (λ (n : Node). u ∈ findingsOf n (cellOf cells s)) (sym e) m
+        later : s < u
+        later = wf .forward s (cellOf cells s .chosen) u acts e m .0
+
+        found : u ∈ chosenSuccessors p cells s
+        found = subst (λ (n : Node). u ∈ chosenSuccessorsOf n (cellOf cells s)) (sym e) m
 
         next : reachedBelow p cells (suc s) u ≡ true
         next = or-right (reachedBelow p cells s u) _ (true-also _ _ h (in-listed found))
@@ -104,10 +106,10 @@ module _ (p : Problem) (cells : List Cell) where
 
 -- What `price` prints, with a table of any number of entries.
 -- refused: the number of the first question that is answered no
-pub refused-prints : (s : List ℕ) (entries i : ℕ) → First (questions s entries largest) i →
-    listing s entries ≡ field (ascii "refused ") (suc i) ++ ascii "\n"
+pub refused-prints : (s : List ℕ) (entries k : ℕ) → First (questions s entries largest) k →
+    listing s entries ≡ field (ascii "refused ") k ++ ascii "\n"
 unfolding listing
-refused-prints s entries i f = rw (answer-refused s entries largest i (first-refuses s entries largest i f), append-nil)
+refused-prints s entries k f = rw (answer-first s entries largest k f, append-nil)
 
 -- of any bytes, by the number of the outcome; demand 1 says that these are all
 module _ (s : List ℕ) (bytes : Bytes s) (entries : ℕ) where

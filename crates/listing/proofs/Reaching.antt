@@ -1,4 +1,4 @@
--- The stages that the plan reaches: the definition's test of them, and flags that hold it.
+-- The states that the plan reaches: the definition's test of them, and flags that hold it.
 use Prim.Native.Nat.{ℕ, _+_, _*_, _<_, _≤_}
 use mathlib.Core.Path.{_≡_, refl, ap, sym, _∙_}
 use mathlib.Core.Bool.{Bool, true, false, _||_, or-false}
@@ -16,52 +16,54 @@ use Rattle.model.specs.Read.{actionFits, actionRead, problemOf, cellsOf}
 use Rattle.sheet.specs.Sheet.{Within, Terminal, Decision}
 use Rattle.sheet.proofs.Laws.{is-terminal, is-decision, actionsAt}
 use Rattle.search.proofs.Actions.{Turn, turn-is, turn-fits, turn-priced}
-use Rattle.listing.specs.Listing.{stateLine, findingsOf, findings, listed, reachedBelow, stateLines}
-use Rattle.listing.specs.Put.{Wrote, Listable, raised}
+use Rattle.listing.specs.Listing.{stateLine, chosenSuccessorsOf, chosenSuccessors, listed, reachedBelow, stateLines}
+use Rattle.listing.specs.Put.{Wrote, Listable, flagged}
 use Rattle.listing.proofs.Writing.{wrote-none, wrote-length, wrote-behind}
 
 -- flags that go up one after the other
-raised-last : (f : List Bool) (ts : List ℕ) (t : ℕ) → raised f (ts ++ t ∷ []) ≡ set (raised f ts) t true
-unfolding raised
-raised-last f [] t = refl
-raised-last f (u ∷ ts) t = raised-last (set f u true) ts t
+flagged-last : (f : List Bool) (ts : List ℕ) (t : ℕ) → flagged f (ts ++ t ∷ []) ≡ set (flagged f ts) t true
+unfolding flagged
+flagged-last f [] t = refl
+flagged-last f (u ∷ ts) t = flagged-last (set f u true) ts t
 
-pub raised-none : (f : List Bool) → raised f [] ≡ f
-unfolding raised
-raised-none f = refl
+pub flagged-none : (f : List Bool) → flagged f [] ≡ f
+unfolding flagged
+flagged-none f = refl
 
-pub raised-length : (f : List Bool) (ts : List ℕ) → length (raised f ts) ≡ length f
-unfolding raised
-raised-length f [] = refl
-raised-length f (t ∷ ts) = raised-length (set f t true) ts ∙ length-set f t true
+pub flagged-length : (f : List Bool) (ts : List ℕ) → length (flagged f ts) ≡ length f
+unfolding flagged
+flagged-length f [] = refl
+flagged-length f (t ∷ ts) = flagged-length (set f t true) ts ∙ length-set f t true
 
 module _ (f : List Bool) (ts : List ℕ) (j m : ℕ) (count : m ≡ length ts) where
-  pub raised-more : j < m → (t : ℕ) → t ≡ getD ts j 0 → set (raised f (take j ts)) t true ≡ raised f (take (j + 1) ts)
-  raised-more lt t e = rw (add-one, take-suc ts j 0 (omega arith), ← e) (sym (raised-last f (take j ts) t))
+  pub flagged-more : j < m → (t : ℕ) → t ≡ getD ts j 0 → set (flagged f (take j ts)) t true ≡ flagged f (take (j + 1) ts)
+  flagged-more lt t e = rw (add-one, take-suc ts j 0 (omega arith), ← e) (sym (flagged-last f (take j ts) t))
 
-  pub raised-all : m ≤ j → raised f (take j ts) ≡ raised f ts
-  raised-all le = rw (take-all j ts (omega arith))
+  pub flagged-all : m ≤ j → flagged f (take j ts) ≡ flagged f ts
+  flagged-all le = rw (take-all j ts (omega arith))
 
-  pub raised-room : j < m → (g : List Bool) → g ≡ raised f (take j ts) → (t : ℕ) → t ≡ getD ts j 0 → ((i : ℕ) → i < length ts → getD ts i 0 < length f) → t < length g
-  raised-room lt g e t is below = rw (e, raised-length f (take j ts), is) (below j (omega arith))
+  pub flagged-room : j < m → (g : List Bool) → g ≡ flagged f (take j ts) → (t : ℕ) → t ≡ getD ts j 0 →
+      ((i : ℕ) → i < length ts → getD ts i 0 < length f) → t < length g
+  flagged-room lt g e t is below = rw (e, flagged-length f (take j ts), is) (below j (omega arith))
 
 -- which flags are up then
-pub raised-at : (f : List Bool) (ts : List ℕ) (t : ℕ) → t < length f → getD (raised f ts) t false ≡ (getD f t false || listed t ts)
-unfolding raised listed
-raised-at f [] t lt = sym (or-false (getD f t false))
-raised-at f (u ∷ ts) t lt = raised-at (set f u true) ts t (rw length-set lt) ∙ go (eqb t u) refl (getD f t false) refl
+pub flagged-at : (f : List Bool) (ts : List ℕ) (t : ℕ) → t < length f → getD (flagged f ts) t false ≡ (getD f t false || listed t ts)
+unfolding flagged listed
+flagged-at f [] t lt = sym (or-false (getD f t false))
+flagged-at f (u ∷ ts) t lt = flagged-at (set f u true) ts t (rw length-set lt) ∙ go (eqb t u) refl (getD f t false) refl
   where
-    go : (b : Bool) → eqb t u ≡ b → (g : Bool) → getD f t false ≡ g → (getD (set f u true) t false || listed t ts) ≡ (g || (b || listed t ts))
+    go : (b : Bool) → eqb t u ≡ b → (g : Bool) → getD f t false ≡ g →
+        (getD (set f u true) t false || listed t ts) ≡ (g || (b || listed t ts))
     go true e true k = rw (eqb-true t u e, getD-set-same f u true false (rw (eqb-true t u e) at lt))
     go true e false k = rw (eqb-true t u e, getD-set-same f u true false (rw (eqb-true t u e) at lt))
     go false e true k = rw (getD-set-other f u t true false (eqb-false t u e), k)
     go false e false k = rw (getD-set-other f u t true false (eqb-false t u e), k)
 
--- a stage of a sheet that can be listed
+-- a state of a sheet that can be listed
 pub stage : {s t : List ℕ} {i : ℕ} → Listable s t → i < states (problemOf s) → Within s t i
 stage w lt = record { sheet = w .sheet; below = lt }
 
--- The check that is chosen at a junction of one.
+-- The action that is chosen at a decision of one.
 module _ {s t : List ℕ} (w : Listable s t) {i : ℕ} (d : Decision s t i) (k : ℕ) (is : k ≡ cellOf (cellsOf s) i .chosen) where
   node : nodeAt (problemOf s) i ≡ decision (actionsAt (problemOf s) i)
   node = is-decision (nodeAt (problemOf s) i) (d .tag)
@@ -80,19 +82,22 @@ module _ {s t : List ℕ} (w : Listable s t) {i : ℕ} (d : Decision s t i) (k :
     pub chosen-fits : actionFits (drop o s) ≡ true
     chosen-fits = turn-fits turn (d .within .sheet)
 
-    pub chosen-below : (n : ℕ) → states (problemOf s) ≤ n → (j : ℕ) → j < length (actionRead (drop o s) .successors) → getD (actionRead (drop o s) .successors) j 0 < n
+    pub chosen-below : (n : ℕ) → states (problemOf s) ≤ n → (j : ℕ) → j < length (actionRead (drop o s) .successors) →
+        getD (actionRead (drop o s) .successors) j 0 < n
     chosen-below n le j lt = omega (arith, turn-priced turn (d .within .sheet) .below j lt)
 
-    pub chosen-findings : actionRead (drop o s) .successors ≡ findings (problemOf s) (cellsOf s) i
-    chosen-findings =
-        ap (λ (a : Action). a .successors) (turn-is turn (d .within .sheet)) ∙ ap (λ (x : ℕ). actionAt (actionsAt (problemOf s) i) x .successors) is
-        ∙ sym (ap (λ (n : Node). findingsOf n (cellOf (cellsOf s) i)) node)
+    pub chosen-successors : actionRead (drop o s) .successors ≡ chosenSuccessors (problemOf s) (cellsOf s) i
+    chosen-successors =
+        let read = ap (λ (a : Action). a .successors) (turn-is turn (d .within .sheet)) in
+        let chosen = ap (λ (x : ℕ). actionAt (actionsAt (problemOf s) i) x .successors) is in
+        read ∙ chosen ∙ sym (ap (λ (n : Node). chosenSuccessorsOf n (cellOf (cellsOf s) i)) node)
 
-pub no-findings : {s t : List ℕ} {i : ℕ} → Terminal s t i → findings (problemOf s) (cellsOf s) i ≡ []
-no-findings {s} {t} {i} h = rw (is-terminal (nodeAt (problemOf s) i) (h .tag))
+pub no-successors : {s t : List ℕ} {i : ℕ} → Terminal s t i → chosenSuccessors (problemOf s) (cellsOf s) i ≡ []
+no-successors {s} {t} {i} h = rw (is-terminal (nodeAt (problemOf s) i) (h .tag))
 
--- The pass over the stages: the lines of those below s that are reached are written, and the flags say which the stages below s reach.
-pub record Lined (p : Problem) (cells : List Cell) (n m : ℕ) (out₀ : List ℕ) (at : ℕ) (flags : List Bool) (out : List ℕ) (next s : ℕ) : Type 0 where
+-- The pass over the states: the lines of those below s that are reached are written, and the flags say which the states below s reach.
+pub record Lined (p : Problem) (cells : List Cell) (n m : ℕ) (out₀ : List ℕ) (at : ℕ)
+    (flags : List Bool) (out : List ℕ) (next s : ℕ) : Type 0 where
   pub upto : s ≤ n
   pub text : Wrote out₀ out at next (stateLines p cells s)
   pub most : next ≤ at + 81 * s
@@ -100,7 +105,8 @@ pub record Lined (p : Problem) (cells : List Cell) (n m : ℕ) (out₀ : List �
   pub up : (t : ℕ) → t < n → getD flags t false ≡ reachedBelow p cells s t
 
 module _ (p : Problem) (cells : List Cell) (n m : ℕ) (out₀ : List ℕ) (at : ℕ) where
-  pub lined-none : (flags : List Bool) → length flags ≡ m → ((t : ℕ) → t < n → getD flags t false ≡ reachedBelow p cells 0 t) → at ≤ length out₀ → Lined p cells n m out₀ at flags out₀ at 0
+  pub lined-none : (flags : List Bool) → length flags ≡ m → ((t : ℕ) → t < n → getD flags t false ≡ reachedBelow p cells 0 t) →
+      at ≤ length out₀ → Lined p cells n m out₀ at flags out₀ at 0
   unfolding stateLines
   lined-none flags wide up room = record { upto = omega arith; text = wrote-none out₀ at room; most = omega arith; wide = wide; up = up }
 
@@ -112,15 +118,17 @@ module _ (p : Problem) (cells : List Cell) (n m : ℕ) (out₀ : List ℕ) (at :
     lined-room lt room = omega (arith, h .most, wrote-length (h .text))
 
     module _ (lt : s < n) (le : n ≤ m) where
-      pub lined-state : getD flags s false ≡ true → {out′ : List ℕ} {next′ : ℕ} → Wrote out out′ next next′ (stateLine p cells s) → next′ ≤ next + 81 → {flags′ : List Bool} → flags′ ≡ raised flags (findings p cells s) →
-          Lined p cells n m out₀ at flags′ out′ next′ (s + 1)
+      pub lined-state : getD flags s false ≡ true →
+          {out′ : List ℕ} {next′ : ℕ} → Wrote out out′ next next′ (stateLine p cells s) → next′ ≤ next + 81 →
+          {flags′ : List Bool} → flags′ ≡ flagged flags (chosenSuccessors p cells s) → Lined p cells n m out₀ at flags′ out′ next′ (s + 1)
       unfolding stateLines reachedBelow also
       lined-state e {out′} {next′} w few {flags′} up = record {
         upto = omega arith;
         text = rw (add-one, reached-now) (wrote-behind (h .text) w);
         most = omega (arith, h .most);
-        wide = rw up (raised-length flags (findings p cells s) ∙ h .wide);
-        up = λ t l. rw (add-one, up, reached-now) (raised-at flags (findings p cells s) t (omega (arith, h .wide)) ∙ rw (h .up t l));
+        wide = rw up (flagged-length flags (chosenSuccessors p cells s) ∙ h .wide);
+        up = λ t l. rw (add-one, up, reached-now)
+            (flagged-at flags (chosenSuccessors p cells s) t (omega (arith, h .wide)) ∙ rw (h .up t l));
       }
         where
           reached-now : reachedBelow p cells s s ≡ true
@@ -144,7 +152,8 @@ module _ (f : List Bool) (m : ℕ) (down : f ≡ replicate m false) where
   pub flags-count : length f ≡ m
   flags-count = rw (down, length-replicate)
 
-  pub started : (p : Problem) (cells : List Cell) (start : ℕ) → start ≡ p .start → (t : ℕ) → t < m → getD (set f start true) t false ≡ reachedBelow p cells 0 t
+  pub started : (p : Problem) (cells : List Cell) (start : ℕ) → start ≡ p .start →
+      (t : ℕ) → t < m → getD (set f start true) t false ≡ reachedBelow p cells 0 t
   unfolding reachedBelow
   started p cells start e t lt = rw (← e) (go (eqb t start) refl)
     where

@@ -41,7 +41,8 @@ digits-same zero l x h g = absurd (omega arith)
 digits-same (suc k) zero x h g = absurd (omega arith)
 digits-same (suc k) (suc l) x h g = go (ltb x 10) refl (digits-same k l (x / 10))
   where
-    go : (b : Bool) → ltb x 10 ≡ b → (x / 10 < k → x / 10 < l → digits k (x / 10) ≡ digits l (x / 10)) → digits (suc k) x ≡ digits (suc l) x
+    go : (b : Bool) → ltb x 10 ≡ b → (x / 10 < k → x / 10 < l → digits k (x / 10) ≡ digits l (x / 10)) →
+        digits (suc k) x ≡ digits (suc l) x
     go true e ih = rw e
     go false e ih = let le : 10 ≤ x = ltb-false _ _ e in rw (e, ih (omega arith) (omega arith))
 
@@ -51,7 +52,9 @@ decimal-one x h = rw (lt-ltb x 10 h)
 
 pub decimal-more : (x : ℕ) → 10 ≤ x → decimal x ≡ decimal (x / 10) ++ lastDigit x ∷ []
 unfolding digits
-decimal-more x h = rw (le-ltb x 10 h) (ap (λ (l : List ℕ). l ++ lastDigit x ∷ []) (digits-same x (suc (x / 10)) (x / 10) (omega arith) (omega arith)))
+decimal-more x h =
+    let same = digits-same x (suc (x / 10)) (x / 10) (omega arith) (omega arith) in
+    rw (le-ltb x 10 h) (ap (λ (l : List ℕ). l ++ lastDigit x ∷ []) same)
 
 -- a number below 10 to the k has at most k digits
 digits-few : (k l x : ℕ) → x < 10 ^ suc k → length (digits l x) ≤ suc k
@@ -59,7 +62,8 @@ unfolding digits
 digits-few k zero x h = omega arith
 digits-few k (suc l) x h = go (ltb x 10) refl k h (λ j. digits-few j l (x / 10))
   where
-    go : (b : Bool) → ltb x 10 ≡ b → (k : ℕ) → x < 10 ^ suc k → ((j : ℕ) → x / 10 < 10 ^ suc j → length (digits l (x / 10)) ≤ suc j) → length (digits (suc l) x) ≤ suc k
+    go : (b : Bool) → ltb x 10 ≡ b → (k : ℕ) → x < 10 ^ suc k →
+        ((j : ℕ) → x / 10 < 10 ^ suc j → length (digits l (x / 10)) ≤ suc j) → length (digits (suc l) x) ≤ suc k
     go true e k h ih = rw e (omega arith)
     go false e zero h ih = let le : 10 ≤ x = ltb-false _ _ e in absurd (omega arith)
     go false e (suc k) h ih = let le : x / 10 < 10 ^ suc k = omega arith in rw (e, length-append) (omega (arith, ih k le))
@@ -89,19 +93,23 @@ module _ (n at x : ℕ) (room : at + length (decimal x) ≤ n) where
   pub more-room : 10 ≤ x → at + length (decimal (x / 10)) ≤ n
   more-room h = omega (arith, more-length x h)
 
-pub last-room : {s s′ : List ℕ} {at next : ℕ} (x : ℕ) → Wrote s s′ at next (decimal (x / 10)) → at + length (decimal x) ≤ length s → 10 ≤ x → next < length s′
+pub last-room : {s s′ : List ℕ} {at next : ℕ} (x : ℕ) → Wrote s s′ at next (decimal (x / 10)) →
+    at + length (decimal x) ≤ length s → 10 ≤ x → next < length s′
 last-room x w room h = omega (arith, more-length x h, w .behind, wrote-length w)
 
 module _ (s s′ : List ℕ) (at next x b : ℕ) (digit : b ≡ lastDigit x) where
   pub one-digit : Wrote s s′ at next (b ∷ []) → x < 10 → Wrote s s′ at next (decimal x)
   one-digit w h = rw (decimal-one x h, ← digit) w
 
-  pub more-digits : (s₀ : List ℕ) (at₀ : ℕ) → Wrote s₀ s at₀ at (decimal (x / 10)) → Wrote s s′ at next (b ∷ []) → 10 ≤ x → Wrote s₀ s′ at₀ next (decimal x)
+  pub more-digits : (s₀ : List ℕ) (at₀ : ℕ) → Wrote s₀ s at₀ at (decimal (x / 10)) → Wrote s s′ at next (b ∷ []) → 10 ≤ x →
+      Wrote s₀ s′ at₀ next (decimal x)
   more-digits s₀ at₀ v w h = rw (decimal-more x h, ← digit) (wrote-behind v w)
 
 -- a number has room behind a word
-pub number-room : {s s′ w : List ℕ} {at next : ℕ} (x : ℕ) → Wrote s s′ at next w → x < 2 ^ 64 → at + length w + 20 ≤ length s → next + length (decimal x) ≤ length s′
+pub number-room : {s s′ w : List ℕ} {at next : ℕ} (x : ℕ) → Wrote s s′ at next w → x < 2 ^ 64 → at + length w + 20 ≤ length s →
+    next + length (decimal x) ≤ length s′
 number-room x w h room = omega (arith, w .behind, wrote-length w, decimal-few x h)
 
-pub field-end : {s s′ : List ℕ} {at next : ℕ} (w : List ℕ) (x : ℕ) → Wrote s s′ at next (w ++ decimal x) → x < 2 ^ 64 → next ≤ at + length w + 20
+pub field-end : {s s′ : List ℕ} {at next : ℕ} (w : List ℕ) (x : ℕ) → Wrote s s′ at next (w ++ decimal x) → x < 2 ^ 64 →
+    next ≤ at + length w + 20
 field-end w x v h = omega (arith, v .behind, length-append w (decimal x), decimal-few x h)

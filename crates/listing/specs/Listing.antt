@@ -1,4 +1,4 @@
--- What `price` prints: document 01's "What the price program prints".
+-- S10: what `price` prints.
 use Prim.Native.Nat.{ℕ, zero, suc, _+_, _*_}
 use mathlib.Core.Bool.{Bool, false, _||_}
 use mathlib.Core.List.{List, [], _∷_, _++_}
@@ -10,7 +10,7 @@ use Rattle.model.specs.declared.Answer.{Answer}
 use Rattle.model.specs.Tests.{fork, also}
 use Rattle.model.specs.Problem.{Node, terminal, decision, Problem, Cell, states, nodeAt, actionAt, cellOf}
 use Rattle.model.specs.Read.{problemOf, cellsOf}
-use Rattle.model.specs.Questions.{maxStates}
+use Rattle.model.specs.Limits.{maxStates}
 use Rattle.model.specs.Report.{largest, answerTo, bytesAfter, tableAfter}
 use Rattle.listing.specs.declared.Listed.{Listed}
 use Rattle.listing.specs.declared.Listed.the-variants.{TooShort, Written}
@@ -20,7 +20,7 @@ use Rattle.listing.specs.Text.{ascii, decimal}
 abbrev pub field : List ℕ → ℕ → List ℕ
 field word x = word ++ decimal x
 
--- Line one is the outcome, the start's value, passes, raises; or `refused` and the number.
+-- S10.2: line one is the outcome, the start's value, passes, raises; or `refused` and the number.
 abbrev pub figures : List ℕ → Answer → List ℕ
 figures word a = field word (a .price) ++ (field (ascii " ") (a .passes) ++ (field (ascii " ") (a .raises) ++ ascii "\n"))
 
@@ -33,31 +33,33 @@ lineOf Stopped a = figures (ascii "stopped ") a
 abbrev pub lineOne : Answer → List ℕ
 lineOne a = lineOf (a .outcome) a
 
--- A stage's line: number, chosen check or `end`, value.
+-- S10.3, a stage's line: number, chosen check or `end`, value.
 abbrev pub choiceOf : Node → Cell → List ℕ
 choiceOf (terminal cost) c = ascii " end"
 choiceOf (decision acts) c = field (ascii " check ") (c .chosen)
 
 abbrev pub stateLine : Problem → List Cell → ℕ → List ℕ
-stateLine p cells s = field (ascii "stage ") s ++ (choiceOf (nodeAt p s) (cellOf cells s) ++ (field (ascii " value ") (cellOf cells s .value) ++ ascii "\n"))
+stateLine p cells s =
+    field (ascii "stage ") s
+    ++ (choiceOf (nodeAt p s) (cellOf cells s) ++ (field (ascii " value ") (cellOf cells s .value) ++ ascii "\n"))
 
 -- the findings of the check that is chosen at a stage; an ending has none
-abbrev pub findingsOf : Node → Cell → List ℕ
-findingsOf (terminal cost) c = []
-findingsOf (decision acts) c = actionAt acts (c .chosen) .successors
+abbrev pub chosenSuccessorsOf : Node → Cell → List ℕ
+chosenSuccessorsOf (terminal cost) c = []
+chosenSuccessorsOf (decision acts) c = actionAt acts (c .chosen) .successors
 
-abbrev pub findings : Problem → List Cell → ℕ → List ℕ
-findings p cells s = findingsOf (nodeAt p s) (cellOf cells s)
+abbrev pub chosenSuccessors : Problem → List Cell → ℕ → List ℕ
+chosenSuccessors p cells s = chosenSuccessorsOf (nodeAt p s) (cellOf cells s)
 
 -- is t one of the listed?
 unfoldable pub listed : ℕ → List ℕ → Bool
 listed t [] = false
 listed t (u ∷ us) = eqb t u || listed t us
 
--- does the plan reach t from the start, by the checks chosen at stages below n?
+-- S2.1: does the plan reach t from the start, by the checks chosen at stages below n?
 unfoldable pub reachedBelow : Problem → List Cell → ℕ → ℕ → Bool
 reachedBelow p cells zero t = eqb t (p .start)
-reachedBelow p cells (suc n) t = reachedBelow p cells n t || also (reachedBelow p cells n n) (λ _. listed t (findings p cells n))
+reachedBelow p cells (suc n) t = reachedBelow p cells n t || also (reachedBelow p cells n n) (λ _. listed t (chosenSuccessors p cells n))
 
 -- does the plan reach t? findings are above their own junction, so the stages below t decide
 abbrev pub reached : Problem → List Cell → ℕ → Bool
@@ -68,25 +70,34 @@ unfoldable pub stateLines : Problem → List Cell → ℕ → List ℕ
 stateLines p cells zero = []
 stateLines p cells (suc n) = stateLines p cells n ++ fork (reached p cells n) (λ _. stateLine p cells n) (λ _. [])
 
--- only when settled do lines follow, of the sheet s as work left it
+-- S10.3: only when settled do lines follow, of the sheet s as work left it
 abbrev pub planOf : Outcome → List ℕ → List ℕ
 planOf (Refused n) s = []
 planOf Settled s = stateLines (problemOf s) (cellsOf s) (states (problemOf s))
 planOf Over s = []
 planOf Stopped s = []
 
--- the listing of a sheet that is worked with the largest allowance and a table of so many entries
+-- S10.1: the listing of a sheet that is worked with the largest budget and a table of so many entries
 unfoldable pub listing : List ℕ → ℕ → List ℕ
 listing s entries = lineOne (answerTo s entries largest) ++ planOf (answerTo s entries largest .outcome) (bytesAfter s entries largest)
 
--- No listing has more bytes than this: line one has at most 71, and a stage's line 81. A shorter buffer is too short, whatever the sheet: it gets that answer, and sheet, table and buffer are left as
--- they are.
+-- The most bytes of line one, and of a stage's line, with twenty digits for every number: `settled ` and three numbers; `stage `, ` check `
+-- and ` value ` with a number behind each.
+abbrev pub maxLineOne : ℕ
+maxLineOne = 71
+
+abbrev pub maxStateLine : ℕ
+maxStateLine = 81
+
+-- No listing has more bytes than this. A shorter buffer is too short, whatever the sheet: it gets that answer, and sheet, table and buffer
+-- are left as they are.
 abbrev pub enough : ℕ
-enough = 71 + 81 * maxStates
+enough = maxLineOne + maxStateLine * maxStates
 
 -- what `list` answers
 unfoldable pub listedAs : List ℕ → List ℕ → List ℕ → Listed
-listedAs s t out = fork (leb enough (length out)) (λ _. Written (length (listing s (length t)))) (λ _. TooShort)
+listedAs s t out =
+    fork (leb enough (length out)) (λ _. Written (length (listing s (length t))) (answerTo s (length t) largest .outcome)) (λ _. TooShort)
 
 -- the sheet, the table and the buffer after it
 unfoldable pub sheetListed : List ℕ → List ℕ → List ℕ → List ℕ

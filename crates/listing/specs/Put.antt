@@ -22,6 +22,6 @@ pub record Listable (s t : List ℕ) : Type 0 where
   pub consistent : Consistent (problemOf s) (cellsOf s)
 
 -- flags with some more of them up
-unfoldable pub raised : List Bool → List ℕ → List Bool
-raised flags [] = flags
-raised flags (t ∷ ts) = raised (set flags t true) ts
+unfoldable pub flagged : List Bool → List ℕ → List Bool
+flagged flags [] = flags
+flagged flags (t ∷ ts) = flagged (set flags t true) ts

@@ -20,6 +20,6 @@ unfoldable pub digits : ℕ → ℕ → List ℕ
 digits zero x = []
 digits (suc k) x = fork (ltb x 10) (λ _. lastDigit x ∷ []) (λ _. digits k (x / 10) ++ lastDigit x ∷ [])
 
--- a number in decimal
+-- S10.4: a number in decimal
 abbrev pub decimal : ℕ → List ℕ
 decimal x = digits (suc x) x

@@ -1,26 +1,32 @@
-// The text that `price` prints, into a lent buffer.
+// The text that `price` prints (S10), into a lent buffer.
 mod text; // text.rt: words and numbers
 mod lines; // lines.rt: the lines of a listing
-mod plan; // plan.rt: the stages that the plan reaches
+mod plan; // plan.rt: the states that the plan reaches
 
 ghost use mathlib.Core.Path.{_≡_};
 ghost use Rattle.listing.specs.Listing.{listedAs, sheetListed, tableListed, textListed};
 use ldfs::solve;
 use lines::put_answer;
 use model::MAX_STATES;
+use model::Outcome;
 use plan::put_plan;
 
-// The bytes that a buffer must have. No listing has more: line one has at most 71, and a stage's line 81.
-pub const ENOUGH: usize = 71 + 81 * MAX_STATES;
+// The most bytes of line one, and of a state's line: `maxLineOne` and `maxStateLine` of specs/Listing.antt.
+const MAX_LINE_ONE: usize = 71;
 
-// What became of a listing: the number of its bytes, or that the buffer is too short for one.
+const MAX_STATE_LINE: usize = 81;
+
+// The bytes that a buffer must have. No listing has more.
+pub const ENOUGH: usize = MAX_LINE_ONE + MAX_STATE_LINE * MAX_STATES;
+
+// What became of a listing: the number of its bytes and the call's outcome (S7.1), or that the buffer is too short for one.
 pub enum Listed {
     TooShort,
-    Written(usize),
+    Written(usize, Outcome),
 }
 
-// Works a sheet with the largest allowance, and writes its listing at the beginning of `out`. A buffer of fewer than `ENOUGH` bytes is too short: nothing is
-// worked then, and nothing written.
+// Works a sheet with the largest budget (S10.1), and writes its listing (S10.2 to S10.4) at the beginning of `out`. A buffer of fewer than
+// `ENOUGH` bytes is too short: nothing is worked then, and nothing written.
 pub fn list(sheet: &mut [u8], table: &mut [u32], out: &mut [u8]) -> Listed
     ensures answer { λ r. ⌜ r ≡ listedAs (now (sheet .entry)) (now (table .entry)) (now (out .entry)) ⌝ }
     ensures sheet { λ _. ⌜ now (sheet .exit) ≡ sheetListed (now (sheet .entry)) (now (table .entry)) (now (out .entry)) ⌝ }
@@ -34,5 +40,5 @@ pub fn list(sheet: &mut [u8], table: &mut [u32], out: &mut [u8]) -> Listed
     let o = a.outcome;
     let next = put_answer(out, 0, a);
     let end = put_plan(sheet, table, out, next, o);
-    Listed::Written(end)
+    Listed::Written(end, o)
 }

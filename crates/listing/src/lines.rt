@@ -6,17 +6,17 @@ ghost use Rattle.model.specs.Problem.{nodeAt, cellOf};
 ghost use Rattle.model.specs.Read.{problemOf, cellsOf};
 ghost use Rattle.sheet.specs.Sheet.{Within};
 ghost use Rattle.listing.specs.Text.{ascii};
-ghost use Rattle.listing.specs.Listing.{field, figures, lineOne, choiceOf, stateLine};
+ghost use Rattle.listing.specs.Listing.{field, figures, lineOne, choiceOf, stateLine, maxLineOne, maxStateLine};
 ghost use Rattle.listing.specs.Put.{Wrote};
 use super::text::put_field;
 use super::text::put_word;
 use model::Answer;
 use model::Outcome;
+use sheet::convert::byte_to_word;
+use sheet::convert::word_to_long;
 use sheet::fields::chosen_at;
 use sheet::fields::is_terminal;
 use sheet::fields::value_at;
-use sheet::numbers::long;
-use sheet::numbers::wide;
 
 // `refused` and the number.
 fn put_refused(out: &mut [u8], at: usize, n: u32) -> usize
@@ -24,7 +24,7 @@ fn put_refused(out: &mut [u8], at: usize, n: u32) -> usize
     ensures { λ r. ⌜ Wrote (now (out .entry)) (now (out .exit)) at r (field (ascii "refused ") n ++ ascii "\n") ⌝ }
     ensures { λ r. ⌜ r ≤ at + 29 ⌝ }
 {
-    let next = put_field(out, at, b"refused ", long(n));
+    let next = put_field(out, at, b"refused ", word_to_long(n));
     put_word(out, next, b"\n")
 }
 
@@ -40,11 +40,11 @@ fn put_figures(out: &mut [u8], at: usize, word: &[u8], a: Answer) -> usize
     put_word(out, next, b"\n")
 }
 
-// Line one of a listing.
+// Line one of a listing (S10.2).
 pub(crate) fn put_answer(out: &mut [u8], at: usize, a: Answer) -> usize
-    requires { ⌜ at + 71 ≤ length (now out) ⌝ }
+    requires { ⌜ at + maxLineOne ≤ length (now out) ⌝ }
     ensures { λ r. ⌜ Wrote (now (out .entry)) (now (out .exit)) at r (lineOne a) ⌝ }
-    ensures { λ r. ⌜ r ≤ at + 71 ⌝ }
+    ensures { λ r. ⌜ r ≤ at + maxLineOne ⌝ }
 {
     let o = a.outcome;
     match o {
@@ -55,11 +55,12 @@ pub(crate) fn put_answer(out: &mut [u8], at: usize, a: Answer) -> usize
     }
 }
 
-// A stage's chosen check, or `end`.
+// A state's chosen action, or `end`.
 fn put_choice(sheet: &[u8], table: &[u32], out: &mut [u8], at: usize, state: usize) -> usize
     requires { ⌜ Within (now sheet) (now table) state ⌝ }
     requires { ⌜ at + 27 ≤ length (now out) ⌝ }
-    ensures { λ r. ⌜ Wrote (now (out .entry)) (now (out .exit)) at r (choiceOf (nodeAt (problemOf (now (sheet .entry))) state) (cellOf (cellsOf (now (sheet .entry))) state)) ⌝ }
+    ensures { λ r. ⌜ Wrote (now (out .entry)) (now (out .exit)) at r
+        (choiceOf (nodeAt (problemOf (now (sheet .entry))) state) (cellOf (cellsOf (now (sheet .entry))) state)) ⌝ }
     ensures { λ r. ⌜ r ≤ at + 27 ⌝ }
 {
     if is_terminal(sheet, table, state) {
@@ -69,12 +70,12 @@ fn put_choice(sheet: &[u8], table: &[u32], out: &mut [u8], at: usize, state: usi
             out,
             at,
             b" check ",
-            long(wide(chosen_at(sheet, table, state))),
+            word_to_long(byte_to_word(chosen_at(sheet, table, state))),
         )
     }
 }
 
-// A stage's line.
+// A state's line (S10.3).
 pub(crate) fn put_state(
     sheet: &[u8],
     table: &[u32],
@@ -83,12 +84,18 @@ pub(crate) fn put_state(
     state: usize,
 ) -> usize
     requires { ⌜ Within (now sheet) (now table) state ⌝ }
-    requires { ⌜ at + 81 ≤ length (now out) ⌝ }
-    ensures { λ r. ⌜ Wrote (now (out .entry)) (now (out .exit)) at r (stateLine (problemOf (now (sheet .entry))) (cellsOf (now (sheet .entry))) state) ⌝ }
-    ensures { λ r. ⌜ r ≤ at + 81 ⌝ }
+    requires { ⌜ at + maxStateLine ≤ length (now out) ⌝ }
+    ensures { λ r. ⌜ Wrote (now (out .entry)) (now (out .exit)) at r
+        (stateLine (problemOf (now (sheet .entry))) (cellsOf (now (sheet .entry))) state) ⌝ }
+    ensures { λ r. ⌜ r ≤ at + maxStateLine ⌝ }
 {
     let next = put_field(out, at, b"stage ", state as u64);
     let next = put_choice(sheet, table, out, next, state);
-    let next = put_field(out, next, b" value ", long(value_at(sheet, table, state)));
+    let next = put_field(
+        out,
+        next,
+        b" value ",
+        word_to_long(value_at(sheet, table, state)),
+    );
     put_word(out, next, b"\n")
 }

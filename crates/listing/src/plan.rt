@@ -1,31 +1,33 @@
-// The stages that the plan reaches, one line each, in one ascending pass: a stage's findings are above it.
+// The states that the plan reaches, one line each, in one ascending pass: a state's successors are above it.
 ghost use mathlib.Core.Path.{_≡_};
 ghost use mathlib.Core.Bool.{true, false};
 ghost use Prim.Native.Nat.{ℕ, _+_, _*_, _<_, _≤_};
 ghost use lib.ListN.{length, getD, drop, replicate};
 ghost use Rattle.model.specs.Problem.{states};
 ghost use Rattle.model.specs.Read.{problemOf, cellsOf, actionRead, actionFits};
-ghost use Rattle.model.specs.Questions.{maxStates};
-ghost use Rattle.listing.specs.Listing.{findings, reachedBelow, stateLines, planOf};
-ghost use Rattle.listing.specs.Put.{Wrote, Listable, raised};
+ghost use Rattle.model.specs.Limits.{maxStates};
+ghost use Rattle.listing.specs.Listing.{chosenSuccessors, reachedBelow, stateLines, planOf, maxStateLine};
+ghost use Rattle.listing.specs.Put.{Wrote, Listable, flagged};
 ghost use Rattle.model.specs.declared.Outcome.the-variants.{Settled};
 use super::lines::put_state;
 use model::MAX_STATES;
 use model::Outcome;
+use model::format;
 use questions::states::action_at;
+use sheet::convert::byte_to_word;
+use sheet::convert::word_to_index;
 use sheet::fields::chosen_at;
 use sheet::fields::is_terminal;
 use sheet::fields::successor;
 use sheet::fields::successor_count;
 use sheet::numbers::get16;
-use sheet::numbers::place;
-use sheet::numbers::wide;
 
 // The flags of the successors of the action at `at` go up.
-fn raise(sheet: &[u8], at: usize, flags: &mut [bool])
+fn flag_all(sheet: &[u8], at: usize, flags: &mut [bool])
     requires { ⌜ actionFits (drop at (now sheet)) ≡ true ⌝ }
-    requires { ⌜ ((j : ℕ) → j < length (actionRead (drop at (now sheet)) .successors) → getD (actionRead (drop at (now sheet)) .successors) j 0 < length (now flags)) ⌝ }
-    ensures { λ _. ⌜ now (flags .exit) ≡ raised (now (flags .entry)) (actionRead (drop at (now (sheet .entry))) .successors) ⌝ }
+    requires { ⌜ ((j : ℕ) → j < length (actionRead (drop at (now sheet)) .successors) →
+        getD (actionRead (drop at (now sheet)) .successors) j 0 < length (now flags)) ⌝ }
+    ensures { λ _. ⌜ now (flags .exit) ≡ flagged (now (flags .entry)) (actionRead (drop at (now (sheet .entry))) .successors) ⌝ }
 {
     let m = successor_count(sheet, at);
     let mut j: usize = 0;
@@ -36,21 +38,22 @@ fn raise(sheet: &[u8], at: usize, flags: &mut [bool])
     }
 }
 
-// The flags of the findings of a stage's chosen check go up.
+// The flags of the successors of a state's chosen action go up.
 fn reach_on(sheet: &[u8], table: &[u32], flags: &mut [bool], state: usize)
     requires { ⌜ Listable (now sheet) (now table) ⌝ }
     requires { ⌜ (state < states (problemOf (now sheet))) × (states (problemOf (now sheet)) ≤ length (now flags)) ⌝ }
-    ensures { λ _. ⌜ now (flags .exit) ≡ raised (now (flags .entry)) (findings (problemOf (now (sheet .entry))) (cellsOf (now (sheet .entry))) state) ⌝ }
+    ensures { λ _. ⌜ now (flags .exit) ≡ flagged (now (flags .entry))
+        (chosenSuccessors (problemOf (now (sheet .entry))) (cellsOf (now (sheet .entry))) state) ⌝ }
 {
     if is_terminal(sheet, table, state) {
         return;
     }
-    let chosen = place(wide(chosen_at(sheet, table, state)));
+    let chosen = word_to_index(byte_to_word(chosen_at(sheet, table, state)));
     let at = action_at(sheet, table, state, chosen);
-    raise(sheet, at, flags);
+    flag_all(sheet, at, flags);
 }
 
-// The lines of the stages whose flags are up, from the first stage on; at the outset only the start's is.
+// The lines of the states whose flags are up, from the first state on; at the outset only the start's is.
 fn put_states(
     sheet: &[u8],
     table: &[u32],
@@ -62,8 +65,9 @@ fn put_states(
     requires { ⌜ Listable (now sheet) (now table) ⌝ }
     requires { ⌜ (n ≡ states (problemOf (now sheet))) × (n ≤ length (now flags)) ⌝ }
     requires { ⌜ ((t : ℕ) → t < n → getD (now flags) t false ≡ reachedBelow (problemOf (now sheet)) (cellsOf (now sheet)) 0 t) ⌝ }
-    requires { ⌜ at + 81 * n ≤ length (now out) ⌝ }
-    ensures { λ r. ⌜ Wrote (now (out .entry)) (now (out .exit)) at r (stateLines (problemOf (now (sheet .entry))) (cellsOf (now (sheet .entry))) n) ⌝ }
+    requires { ⌜ at + maxStateLine * n ≤ length (now out) ⌝ }
+    ensures { λ r. ⌜ Wrote (now (out .entry)) (now (out .exit)) at r
+        (stateLines (problemOf (now (sheet .entry))) (cellsOf (now (sheet .entry))) n) ⌝ }
 {
     let mut next: usize = at;
     let mut s: usize = 0;
@@ -77,15 +81,16 @@ fn put_states(
     next
 }
 
-// The lines of all stages that the plan reaches. No flag is up at the outset.
+// The lines of all states that the plan reaches (S10.3). No flag is up at the outset.
 fn put_reached(sheet: &[u8], table: &[u32], flags: &mut [bool], out: &mut [u8], at: usize) -> usize
     requires { ⌜ Listable (now sheet) (now table) ⌝ }
     requires { ⌜ now flags ≡ replicate maxStates false ⌝ }
-    requires { ⌜ at + 81 * maxStates ≤ length (now out) ⌝ }
-    ensures { λ r. ⌜ Wrote (now (out .entry)) (now (out .exit)) at r (stateLines (problemOf (now (sheet .entry))) (cellsOf (now (sheet .entry))) (states (problemOf (now (sheet .entry))))) ⌝ }
+    requires { ⌜ at + maxStateLine * maxStates ≤ length (now out) ⌝ }
+    ensures { λ r. ⌜ Wrote (now (out .entry)) (now (out .exit)) at r
+        (stateLines (problemOf (now (sheet .entry))) (cellsOf (now (sheet .entry))) (states (problemOf (now (sheet .entry))))) ⌝ }
 {
-    let n = place(get16(sheet, 4));
-    let start = place(get16(sheet, 6));
+    let n = word_to_index(get16(sheet, format::STATES_IN));
+    let start = word_to_index(get16(sheet, format::START_IN));
     flags[start] = true;
     put_states(sheet, table, flags, out, at, n)
 }
@@ -93,7 +98,7 @@ fn put_reached(sheet: &[u8], table: &[u32], flags: &mut [bool], out: &mut [u8], 
 // The lines that follow line one: none but when settled.
 pub(crate) fn put_plan(sheet: &[u8], table: &[u32], out: &mut [u8], at: usize, o: Outcome) -> usize
     requires { ⌜ (o ≡ Settled → Listable (now sheet) (now table)) ⌝ }
-    requires { ⌜ at + 81 * maxStates ≤ length (now out) ⌝ }
+    requires { ⌜ at + maxStateLine * maxStates ≤ length (now out) ⌝ }
     ensures { λ r. ⌜ Wrote (now (out .entry)) (now (out .exit)) at r (planOf o (now (sheet .entry))) ⌝ }
 {
     match o {

@@ -1,5 +1,5 @@
--- The three demands, each a claim about calls as their caller sees them. The crate `theory` has the theorems; `ldfs` and `host` have them
--- of the code.
+-- S8: the three demands, each a claim about calls as their caller sees them. The crate `theory` has the theorems; `ldfs` and `host` have
+-- them of the code.
 use Prim.Native.Nat.{ℕ, suc, _+_, _<_, _≤_}
 use mathlib.Core.Path.{_≡_}
 use mathlib.Core.Bool.{true, false}
@@ -8,13 +8,14 @@ use mathlib.Core.List.{List, _∷_, _++_}
 use Rattle.model.specs.Problem.{Problem, Cell, cellOf, valueOf, solved}
 use Rattle.model.specs.Format.{Bytes}
 use Rattle.model.specs.Read.{problemOf, cellsOf}
-use Rattle.model.specs.QValue.{ceiling, cut}
+use Rattle.model.specs.Limits.{ceiling}
+use Rattle.model.specs.QValue.{cut}
 use Rattle.model.specs.Questions.{questions, answerAt, First, accepted}
 use Rattle.model.specs.Optimal.{optimal, gaps}
 use Rattle.model.specs.Policy.{Policy, Closed, policyCost, written}
 use Rattle.model.specs.Calls.{Call, left, raisesIn}
 
--- an accepted sheet, however far it has been worked: bytes that get a yes to every question but those on the table and the allowance
+-- an accepted sheet, however far it has been worked: bytes that get a yes to every question but those on the table and the budget
 pub record Accepted (s : List ℕ) : Type 0 where
   pub bytes : Bytes s
   pub yes : accepted s ≡ true
@@ -23,7 +24,7 @@ pub record Accepted (s : List ℕ) : Type 0 where
 abbrev pub startCell : List ℕ → List ℕ → Cell
 startCell s s′ = cellOf (cellsOf s′) (problemOf s .start)
 
--- V*, the least cost, of the start of the sheet s
+-- the least cost of the start of the sheet s
 abbrev pub startCost : List ℕ → ℕ
 startCost s = optimal (problemOf s) (problemOf s .start)
 
@@ -34,62 +35,65 @@ pub record Best (p : Problem) (cells : List Cell) : Type 0 where
   pub costs : policyCost p (written cells) (p .start) ≡ valueOf cells (p .start)
   pub least : (π : Policy) → Closed p π (p .start) → policyCost p (written cells) (p .start) ≤ policyCost p π (p .start)
 
--- Demand 1, of a call c on the bytes s with a table of so many entries and a budget: it was refused by the first question whose answer is
--- no, and left the bytes unaltered; or every answer is yes, and it ended settled (100), over (101) or stopped (102).
+-- Demand 1 (S5.1 to S5.3, S8.1), of a call c on the bytes s with a table of so many entries and a budget: it was refused by the first
+-- question whose answer is no, and left the bytes unaltered; or every answer is yes, and it ended settled (100), over (101) or stopped
+-- (102).
 pub data Demand1 (s : List ℕ) (entries budget : ℕ) (c : Call) : Type 0 where
-  refused : (i : ℕ) → First (questions s entries budget) i → c .number ≡ suc i →
-      (c .price ≡ 0) × (c .passes ≡ 0) × (c .raises ≡ 0) → c .bytes ≡ s → Demand1 s entries budget c
+  refused : First (questions s entries budget) (c .number) → (c .price ≡ 0) × (c .passes ≡ 0) × (c .raises ≡ 0) →
+      c .bytes ≡ s → Demand1 s entries budget c
   worked : ((i : ℕ) → answerAt (questions s entries budget) i ≡ true) →
       (c .number ≡ 100) ⊎ ((c .number ≡ 101) ⊎ (c .number ≡ 102)) → Demand1 s entries budget c
 
--- a settled call: the price is the least cost of the start, below the ceiling; the start is marked, and its plan is best
+-- S8.2, a settled call: the price is the least cost of the start, below the ceiling; the start is marked, and its plan is best
 pub record SettledAt (s : List ℕ) (c : Call) : Type 0 where
   pub price : c .price ≡ startCost s
   pub below : c .price < ceiling
   pub marked : solved (startCell s (c .bytes)) ≡ true
   pub best : Best (problemOf s) (cellsOf (c .bytes))
 
--- a call that is over: the price is the ceiling, the least cost is that or more, and the start is marked
+-- S8.3, a call that is over: the price is the ceiling, the least cost is that or more, and the start is marked
 pub record OverAt (s : List ℕ) (c : Call) : Type 0 where
   pub price : c .price ≡ ceiling
   pub above : ceiling ≤ startCost s
   pub marked : solved (startCell s (c .bytes)) ≡ true
 
--- a stopped call: it made exactly as many raises as its budget, and the start is open
+-- S8.4, a stopped call: it made exactly as many raises as its budget, the start is open, and the price is a lower bound of the least cost
 pub record StoppedAt (s : List ℕ) (c : Call) : Type 0 where
   pub spent : c .raises ≡ c .budget
   pub still-open : solved (startCell s (c .bytes)) ≡ false
+  pub bound : c .price ≤ startCost s
 
--- Demand 2, of a call c on the bytes s with a table of so many entries and a budget
+-- Demand 2 (S7, S8.2 to S8.4), of a call c on the bytes s with a table of so many entries and a budget
 pub record Demand2 (s : List ℕ) (entries budget : ℕ) (c : Call) : Type 0 where
   -- it was refused, with a number below those of the outcomes, exactly where some question is answered no
   pub refused-for : c .number < 100 → (i : ℕ) × (answerAt (questions s entries budget) i ≡ false)
   pub refused-where : (i : ℕ) → answerAt (questions s entries budget) i ≡ false → c .number < 100
-  -- what each outcome says
+  -- what each outcome says (S8.2, S8.3, S8.4)
   pub settled : c .number ≡ 100 → SettledAt s c
   pub over : c .number ≡ 101 → OverAt s c
   pub stopped : c .number ≡ 102 → StoppedAt s c
-  -- the price of a call that was not refused is the value that it left at the start
+  -- S7.2: the price of a call that was not refused is the value that it left at the start
   pub price-is-value : 100 ≤ c .number → c .price ≡ startCell s (c .bytes) .value
-  -- the allowance in the answer is the one that was given, raises do not go beyond it, and passes are at most raises plus 1
+  -- S7.5, S7.3: the budget in the answer is the one that was given, raises do not go beyond it, and passes are at most raises plus 1
   pub given : c .budget ≡ budget
   pub raises-within : c .raises ≤ budget
   pub passes-few : c .passes ≤ suc (c .raises)
 
--- Demand 3, of a sheet whose bytes were s at the outset and a list of calls on it, refused ones included; the list may be empty
+-- Demand 3 (S8.5 to S8.10), of a sheet whose bytes were s at the outset and a list of calls on it, refused ones included; the list may be
+-- empty
 pub record Demand3 (s : List ℕ) (calls : List Call) : Type 0 where
-  -- the sheet is still one of the same problem, and accepted
+  -- S8.5: the sheet is still one of the same problem, and accepted
   pub same-problem : problemOf (left s calls) ≡ problemOf s
   pub still-accepted : Accepted (left s calls)
-  -- each value is at least its first value
+  -- S8.6: each value is at least its first value
   pub not-below-first : (t : ℕ) → valueOf (cellsOf s) t ≤ valueOf (cellsOf (left s calls)) t
-  -- and at most the least cost, cut to the ceiling
+  -- S8.7: and at most the least cost, cut to the ceiling
   pub not-above-optimal : (t : ℕ) → valueOf (cellsOf (left s calls)) t ≤ cut (optimal (problemOf s) t)
-  -- all raises reported, plus the gaps still left, are at most the gaps at the outset
+  -- S8.8: all raises reported, plus the gaps still left, are at most the gaps at the outset
   pub raises-within-gaps : raisesIn calls + gaps (problemOf s) (cellsOf (left s calls)) ≤ gaps (problemOf s) (cellsOf s)
-  -- every call that is not refused and leaves the start open has reported exactly its budget in raises
+  -- S8.9: every call that is not refused and leaves the start open has reported exactly its budget in raises
   pub budget-spent : (before rest : List Call) (c : Call) → calls ≡ before ++ c ∷ rest →
       100 ≤ c .number → solved (startCell s (c .bytes)) ≡ false → c .raises ≡ c .budget
-  -- if the start is then settled below the ceiling, its plan is best
+  -- S8.10: if the start is then settled below the ceiling, its plan is best
   pub best : solved (startCell s (left s calls)) ≡ true → startCell s (left s calls) .value < ceiling →
       Best (problemOf s) (cellsOf (left s calls))

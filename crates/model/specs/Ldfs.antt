@@ -1,10 +1,11 @@
--- Learning depth-first search: document 002's procedure, in sheet order, with a budget of raises ("How a sheet is worked").
+-- S6: how a sheet is worked. Learning depth-first search, in sheet order, with a budget of raises.
 use Prim.Native.Nat.{ℕ, zero, suc}
 use mathlib.Core.Bool.{Bool, true, false}
 use mathlib.Core.List.{List, [], _∷_}
 use lib.Dec.{ltb}
 use lib.ListN.{length}
-use Rattle.model.specs.Problem.{Action, Node, terminal, decision, Problem, Cell, states, nodeAt, actionAt, cellOf, valueOf, solved, setValue, setSolved}
+use Rattle.model.specs.Problem.{Action, Node, terminal, decision, Problem, Cell, states, nodeAt, actionAt}
+use Rattle.model.specs.Problem.{cellOf, valueOf, solved, setValue, setSolved}
 use Rattle.model.specs.QValue.{q, least}
 
 -- the cells as work has left them, and the raises made so far
@@ -47,45 +48,47 @@ stored s x w = record { cells = setValue (w .cells) s x; raises = w .raises }
 abbrev pub raised : ℕ → ℕ → Search → Search
 raised s x w = record { cells = setValue (w .cells) s x; raises = suc (w .raises) }
 
--- s is marked, and action i chosen
+-- s is marked, and check i chosen
 abbrev pub marked : ℕ → ℕ → Search → Search
 marked s i w = record { cells = setSolved (w .cells) s i; raises = w .raises }
 
--- The one place where a value changes. A change to a larger value is a raise, and work stops just before the raise that would go beyond
--- the budget; to store the same value is no raise.
+-- S6.8, S6.9: the one place where a value changes. A change to a larger value is a raise, and work stops just before the raise that would
+-- go beyond the budget; to store the same value is no raise.
 unfoldable pub update : ℕ → ℕ → ℕ → (Search → Visit) → Search → Visit
 update budget s x next w =
     onTest (ltb (valueAt w s) x)
     (onTest (ltb (w .raises) budget) (λ w′. next (raised s x w′)) halt)
     (λ w′. next (stored s x w′)) w
 
--- is the price of an action above the value of s?
+-- is the price of a check above the value of s?
 unfoldable pub ifDear : Problem → ℕ → Action → (Search → Visit) → (Search → Visit) → Search → Visit
 ifDear p s a f g w = onTest (ltb (valueAt w s) (priceAt p w a)) f g w
 
 module _ (p : Problem) (budget : ℕ) where
-  -- the successors of a in turn, and after each visit a is priced anew: a failed visit, or a price now above the value of s, abandons it
+  -- S6.5: the findings of a in turn, and after each visit a is priced anew: a failed visit, or a price now above the value of s, abandons
+  -- it
   unfoldable pub visitAll : (ℕ → Search → Visit) → ℕ → Action → List ℕ → Search → Visit
   visitAll visit s a [] w = success w
   visitAll visit s a (t ∷ ts) w = onVisit (visit t w) (ifDear p s a failure (visitAll visit s a ts)) failure
 
-  -- action i, whose price is not above the value: if every successor passes, s is marked and that action chosen; else what is next
+  -- S6.6: check i, whose price is not above the value: if every finding passes, s is marked and that check chosen; else what is next
   unfoldable pub tryOne : (ℕ → Search → Visit) → ℕ → List Action → ℕ → (Search → Visit) → Search → Visit
-  tryOne visit s acts i next w = onVisit (visitAll visit s (actionAt acts i) (actionAt acts i .successors) w) (λ w′. success (marked s i w′)) next
+  tryOne visit s acts i next w =
+      onVisit (visitAll visit s (actionAt acts i) (actionAt acts i .successors) w) (λ w′. success (marked s i w′)) next
 
-  -- the actions in order, n of them from number i on, one whose price is above the value skipped; if none passes, the value becomes the
-  -- least price, and the visit fails
+  -- S6.4, S6.7: the checks in order, n of them from number i on, one whose price is above the value skipped; if none passes, the value
+  -- becomes the least price, and the visit fails
   unfoldable pub tryAll : (ℕ → Search → Visit) → ℕ → List Action → ℕ → ℕ → Search → Visit
   tryAll visit s acts zero i w = update budget s (least (priceAt p w) acts) failure w
   tryAll visit s acts (suc n) i w =
       ifDear p s (actionAt acts i) (tryAll visit s acts n (suc i)) (tryOne visit s acts i (tryAll visit s acts n (suc i))) w
 
-  -- an open terminal's value becomes its cost, and it is marked
+  -- S6.3: an open ending's value becomes its cost, and it is marked
   unfoldable pub visitOpen : (ℕ → Search → Visit) → ℕ → Node → Search → Visit
   visitOpen visit s (terminal cost) w = update budget s cost (λ w′. success (marked s 0 w′)) w
   visitOpen visit s (decision acts) w = tryAll visit s acts (length acts) 0 w
 
-  -- a visit to s; the first number bounds how deep visits go, and the number of states is enough
+  -- a visit to s, which succeeds where s is settled (S6.2); the first number bounds how deep visits go, and the number of stages is enough
   unfoldable pub visit : ℕ → ℕ → Search → Visit
   visit zero s w = halt w
   visit (suc n) s w = onTest (solvedAt w s) success (visitOpen (visit n) s (nodeAt p s)) w
@@ -100,8 +103,8 @@ onPass n (success w) next = record { begun = n; ended = success w }
 onPass n (failure w) next = next w
 onPass n (halt w) next = record { begun = n; ended = halt w }
 
--- passes, visits to the start, after n of them, until one succeeds; the first number bounds how many there are: a pass that fails has raised
--- something, so one more than the budget is enough
+-- S6.1: passes, visits to the start, after n of them, until one succeeds; the first number bounds how many there are: a pass that fails has
+-- raised something (S6.10), so one more than the budget is enough
 unfoldable pub passes : Problem → ℕ → ℕ → ℕ → Search → Passes
 passes p budget zero n w = record { begun = n; ended = halt w }
 passes p budget (suc f) n w = onPass (suc n) (visit p budget (states p) (p .start) w) (passes p budget f (suc n))

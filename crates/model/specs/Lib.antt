@@ -1,6 +1,7 @@
-pub mod Tests
 pub mod Problem
+pub mod Limits
 pub mod Format
+pub mod Tests
 pub mod Read
 pub mod QValue
 pub mod Questions

@@ -1,10 +1,10 @@
--- The least cost of a stage: V*, the solution of document 000's Bellman equation, uncut. And gaps.
+-- S2.5: the least cost of a stage, V*, the solution of the Bellman equation, uncut. And gaps (S8.8).
 use Prim.Native.Nat.{ℕ, zero, suc, _+_, _-_}
 use mathlib.Core.List.{List}
 use Rattle.model.specs.Problem.{Kind, Node, terminal, decision, Problem, Cell, states, nodeAt, valueOf}
 use Rattle.model.specs.QValue.{qFull, q, least, cut}
 
--- f with f s ≡ step s f, where step s looks at states above s only; the number bounds how deep it looks
+-- f with f s ≡ step s f, where step s looks at stages above s only; the number bounds how deep it looks
 unfoldable pub solution : (ℕ → (ℕ → ℕ) → ℕ) → ℕ → ℕ → ℕ
 solution step zero s = step s (λ t. 0)
 solution step (suc n) s = step s (solution step n)
@@ -30,7 +30,7 @@ bellmanCutAt k v (decision acts) = least (q k v) acts
 abbrev pub bellmanCut : Problem → ℕ → (ℕ → ℕ) → ℕ
 bellmanCut p s v = bellmanCutAt (p .kind) v (nodeAt p s)
 
--- a stage's gap: its least cost, cut to the ceiling, less its value
+-- S8.8, a stage's gap: its least cost, cut to the ceiling, less its value
 abbrev pub gap : Problem → List Cell → ℕ → ℕ
 gap p cells s = cut (optimal p s) - valueOf cells s
 

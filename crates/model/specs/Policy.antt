@@ -1,4 +1,4 @@
--- Plans: document 000's policies. A policy gives some decisions the number of an action.
+-- S2.1 to S2.4: plans, which are the literature's policies. A policy gives some junctions the number of a check.
 use Prim.Native.Nat.{ℕ, _<_}
 use mathlib.Core.Path.{_≡_}
 use mathlib.Core.Option.{Option, none, some}
@@ -11,17 +11,19 @@ use Rattle.model.specs.Optimal.{solution}
 abbrev pub Policy : Type 0
 Policy = ℕ → Option ℕ
 
--- t is reached from s by the policy's own choices
+-- S2.1: t is reached from s by the plan's own choices
 pub data Reach (p : Problem) (π : Policy) : ℕ → ℕ → Type 0 where
   arrived : {s : ℕ} → Reach p π s s
-  onward : {s u t i : ℕ} {acts : List Action} → nodeAt p s ≡ decision acts → π s ≡ some i → u ∈ actionAt acts i .successors → Reach p π u t → Reach p π s t
+  onward : {s u t i : ℕ} {acts : List Action} → nodeAt p s ≡ decision acts → π s ≡ some i → u ∈ actionAt acts i .successors →
+      Reach p π u t → Reach p π s t
 
--- complete from a stage: every junction that is reached is covered, by a check that exists
+-- S2.2, complete from a stage: every junction that is reached is covered, by a check that exists
 abbrev pub Closed : Problem → Policy → ℕ → Type 0
-Closed p π s = (t : ℕ) (acts : List Action) → Reach p π s t → nodeAt p t ≡ decision acts → (i : ℕ) × (π t ≡ some i) × (i < length acts)
+Closed p π s =
+    (t : ℕ) (acts : List Action) → Reach p π s t → nodeAt p t ≡ decision acts → (i : ℕ) × (π t ≡ some i) × (i < length acts)
 
--- the cost of a policy: at an ending the ending's cost, at a junction the chosen check's cost plus the largest, or the sum, of the policy's
--- cost at its findings; 0 at a junction that is not covered
+-- S2.3, the cost of a plan: at an ending the ending's cost, at a junction the chosen check's cost plus the largest, or the sum, of the
+-- plan's cost at its findings; 0 at a junction that is not covered
 unfoldable pub costAt : Kind → (ℕ → ℕ) → Node → Option ℕ → ℕ
 costAt k v (terminal cost) o = cost
 costAt k v (decision acts) none = 0
@@ -30,6 +32,6 @@ costAt k v (decision acts) (some i) = qFull k v (actionAt acts i)
 unfoldable pub policyCost : Problem → Policy → ℕ → ℕ
 policyCost p π = solution (λ s v. costAt (p .kind) v (nodeAt p s) (π s)) (states p)
 
--- the plan that is written in the cells: the chosen check at each junction
+-- S8.2: the plan that is written in the cells, the chosen check at each junction
 abbrev pub written : List Cell → Policy
 written cells s = some (cellOf cells s .chosen)

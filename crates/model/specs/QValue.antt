@@ -1,39 +1,37 @@
 -- The price of a check, for both kinds from one definition, and the least price.
 use Prim.Native.Nat.{ℕ, _+_, min, max}
 use mathlib.Core.List.{List, [], _∷_}
+use Rattle.model.specs.Limits.{ceiling}
 use Rattle.model.specs.Problem.{Kind, worst, whole, Action}
 
--- any value or sum above the ceiling counts as the ceiling
-unfoldable pub ceiling : ℕ
-ceiling = 1000000000
-
+-- S2.7: any value or price above the ceiling counts as the ceiling
 abbrev pub cut : ℕ → ℕ
 cut x = min x ceiling
 
--- the larger on a worst sheet, the sum on a whole one
+-- S2.3: the larger on a worst sheet, the sum on a whole one
 unfoldable pub join : Kind → ℕ → ℕ → ℕ
 join worst x y = max x y
 join whole x y = x + y
 
--- the largest, or the sum, of v over some states
+-- the largest, or the sum, of v over some stages
 unfoldable pub joined : Kind → (ℕ → ℕ) → List ℕ → ℕ
 joined k v [] = 0
 joined k v (t ∷ ts) = join k (v t) (joined k v ts)
 
--- an action's cost plus the largest, or the sum, of its successors' values by v: document 002's Q-value, uncut
+-- a check's cost plus the largest, or the sum, of its findings' values by v, uncut: the literature's Q-value
 abbrev pub qFull : Kind → (ℕ → ℕ) → Action → ℕ
 qFull k v a = a .cost + joined k v (a .successors)
 
--- the price of a check by the values v: cut to the ceiling
+-- S2.8: the price of a check by the values v, cut to the ceiling
 abbrev pub q : Kind → (ℕ → ℕ) → Action → ℕ
 q k v a = cut (qFull k v a)
 
--- the least of x and of f over some actions
+-- the least of x and of f over some checks
 unfoldable pub leastFrom : ℕ → (Action → ℕ) → List Action → ℕ
 leastFrom x f [] = x
 leastFrom x f (a ∷ more) = leastFrom (min x (f a)) f more
 
--- the least of f over some actions; 0 for none, which question 4 rules out
+-- the least of f over some checks; 0 for none, which question 4 rules out
 unfoldable pub least : (Action → ℕ) → List Action → ℕ
 least f [] = 0
 least f (a ∷ more) = leastFrom (f a) f more

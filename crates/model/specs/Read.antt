@@ -1,5 +1,6 @@
--- Reading bytes as a problem and its cells: the head, then each stage's field in turn. The first field out of place ends the reading.
--- `..Good` says whether fields are in place, `..Read` what they say; what is read where a field is out of place is never looked at.
+-- Reading bytes as a problem and its cells: the head, then each stage's field in turn. The first field out of place ends the reading
+-- (S4.4). `..Good` says whether fields are in place, `..Read` what they say; what is read where a field is out of place is never looked
+-- at.
 use Prim.Native.Nat.{ℕ, zero, suc, _+_, _-_, _/_, _%_}
 use mathlib.Core.Bool.{Bool, true, false}
 use mathlib.Core.List.{List, [], _∷_}
@@ -7,39 +8,52 @@ use lib.ListN.{length, getD, drop}
 use lib.Dec.{eqb, leb}
 use Rattle.model.specs.Tests.{fork, also, all}
 use Rattle.model.specs.Problem.{Kind, worst, whole, Action, action, Node, terminal, decision, Problem, problem, Cell, cell}
+use Rattle.model.specs.Limits.{maxActions}
 use Rattle.model.specs.Format.{be16, be32, terminalTag, decisionTag, actionTag, terminalLength, decisionLength}
-
--- a junction has 1 to 16 checks
-abbrev pub maxActions : ℕ
-maxActions = 16
+use Rattle.model.specs.Format.{minActionLength, maxActionLength}
+use Rattle.model.specs.Format.{lengthIn, contentIn, kindIn, statesIn, startIn, terminalCostIn, terminalValueIn, decisionValueIn}
+use Rattle.model.specs.Format.{actionCostIn, successorsIn, costBytes, successorBytes, markBehind, chosenBehind}
+use Rattle.model.specs.Format.{headSize, terminalSize, decisionSize}
 
 -- Below, r is what is left of the bytes. No tag is 0, which is read past the end.
 abbrev pub tag : List ℕ → ℕ
 tag r = getD r 0 0
 
+-- the length that a field's own bytes give for its content, and the size of the whole field
+abbrev pub contentLength : List ℕ → ℕ
+contentLength r = be16 r lengthIn
+
+abbrev pub fieldSize : List ℕ → ℕ
+fieldSize r = contentIn + contentLength r
+
 -- a check's field: a content of 6 to 36 bytes, even, all there
 unfoldable pub actionFits : List ℕ → Bool
-actionFits r = all (leb 6 (be16 r 1) ∷ leb (be16 r 1) 36 ∷ eqb (be16 r 1 % 2) 0 ∷ leb (3 + be16 r 1) (length r) ∷ [])
+actionFits r =
+    all (
+    leb minActionLength (contentLength r) ∷ leb (contentLength r) maxActionLength ∷ eqb (contentLength r % 2) 0
+    ∷ leb (fieldSize r) (length r) ∷ []
+    )
 
 unfoldable pub successorsRead : ℕ → List ℕ → List ℕ
 successorsRead zero r = []
-successorsRead (suc n) r = be16 r 0 ∷ successorsRead n (drop 2 r)
+successorsRead (suc n) r = be16 r 0 ∷ successorsRead n (drop successorBytes r)
 
 unfoldable pub actionRead : List ℕ → Action
-actionRead r = action (be32 r 3) (successorsRead ((be16 r 1 - 4) / 2) (drop 7 r))
+actionRead r = action (be32 r actionCostIn) (successorsRead ((contentLength r - costBytes) / successorBytes) (drop successorsIn r))
 
 -- The checks at the front of r, of which there may be `most`: are they in place, what do they say, how many bytes do they take.
 unfoldable pub actionsGood : ℕ → List ℕ → Bool
 actionsGood zero r = fork (eqb (tag r) actionTag) (λ _. false) (λ _. true)
-actionsGood (suc most) r = fork (eqb (tag r) actionTag) (λ _. also (actionFits r) (λ _. actionsGood most (drop (3 + be16 r 1) r))) (λ _. true)
+actionsGood (suc most) r =
+    fork (eqb (tag r) actionTag) (λ _. also (actionFits r) (λ _. actionsGood most (drop (fieldSize r) r))) (λ _. true)
 
 unfoldable pub actionsRead : ℕ → List ℕ → List Action
 actionsRead zero r = []
-actionsRead (suc most) r = fork (eqb (tag r) actionTag) (λ _. actionRead r ∷ actionsRead most (drop (3 + be16 r 1) r)) (λ _. [])
+actionsRead (suc most) r = fork (eqb (tag r) actionTag) (λ _. actionRead r ∷ actionsRead most (drop (fieldSize r) r)) (λ _. [])
 
 unfoldable pub actionsLong : ℕ → List ℕ → ℕ
 actionsLong zero r = 0
-actionsLong (suc most) r = fork (eqb (tag r) actionTag) (λ _. 3 + be16 r 1 + actionsLong most (drop (3 + be16 r 1) r)) (λ _. 0)
+actionsLong (suc most) r = fork (eqb (tag r) actionTag) (λ _. fieldSize r + actionsLong most (drop (fieldSize r) r)) (λ _. 0)
 
 -- what follows them
 abbrev pub pastActions : ℕ → List ℕ → List ℕ
@@ -47,33 +61,44 @@ pastActions most r = drop (actionsLong most r) r
 
 -- an ending's field, its tag read already
 unfoldable pub terminalFits : List ℕ → Bool
-terminalFits r = all (eqb (be16 r 1) terminalLength ∷ leb 12 (length r) ∷ [])
+terminalFits r = all (eqb (contentLength r) terminalLength ∷ leb terminalSize (length r) ∷ [])
 
 -- a junction's own field, with a check behind it
 unfoldable pub headerFits : List ℕ → Bool
-headerFits r = all (eqb (tag r) decisionTag ∷ eqb (be16 r 1) decisionLength ∷ leb 9 (length r) ∷ eqb (tag (drop 9 r)) actionTag ∷ [])
+headerFits r =
+    all (
+    eqb (tag r) decisionTag ∷ eqb (contentLength r) decisionLength ∷ leb decisionSize (length r)
+    ∷ eqb (tag (drop decisionSize r)) actionTag ∷ []
+    )
 
 unfoldable pub decisionFits : List ℕ → Bool
-decisionFits r = also (headerFits r) (λ _. actionsGood maxActions (drop 9 r))
+decisionFits r = also (headerFits r) (λ _. actionsGood maxActions (drop decisionSize r))
 
 -- n stages: are they in place with nothing behind them; their nodes; their cells
 unfoldable pub nodesGood : ℕ → List ℕ → Bool
 nodesGood zero r = eqb (length r) 0
 nodesGood (suc n) r =
-    fork (eqb (tag r) terminalTag) (λ _. also (terminalFits r) (λ _. nodesGood n (drop 12 r)))
-    (λ _. also (decisionFits r) (λ _. nodesGood n (pastActions maxActions (drop 9 r))))
+    fork (eqb (tag r) terminalTag) (λ _. also (terminalFits r) (λ _. nodesGood n (drop terminalSize r)))
+    (λ _. also (decisionFits r) (λ _. nodesGood n (pastActions maxActions (drop decisionSize r))))
 
 unfoldable pub nodesRead : ℕ → List ℕ → List Node
 nodesRead zero r = []
 nodesRead (suc n) r =
-    fork (eqb (tag r) terminalTag) (λ _. terminal (be32 r 3) ∷ nodesRead n (drop 12 r))
-    (λ _. decision (actionsRead maxActions (drop 9 r)) ∷ nodesRead n (pastActions maxActions (drop 9 r)))
+    fork (eqb (tag r) terminalTag) (λ _. terminal (be32 r terminalCostIn) ∷ nodesRead n (drop terminalSize r))
+    (λ _. decision (actionsRead maxActions (drop decisionSize r)) ∷ nodesRead n (pastActions maxActions (drop decisionSize r)))
+
+abbrev pub terminalCell : List ℕ → Cell
+terminalCell r = cell (be32 r terminalValueIn) (getD r (terminalValueIn + markBehind) 0) 0
+
+abbrev pub decisionCell : List ℕ → Cell
+decisionCell r =
+    cell (be32 r decisionValueIn) (getD r (decisionValueIn + markBehind) 0) (getD r (decisionValueIn + chosenBehind) 0)
 
 unfoldable pub cellsRead : ℕ → List ℕ → List Cell
 cellsRead zero r = []
 cellsRead (suc n) r =
-    fork (eqb (tag r) terminalTag) (λ _. cell (be32 r 7) (getD r 11 0) 0 ∷ cellsRead n (drop 12 r))
-    (λ _. cell (be32 r 3) (getD r 7 0) (getD r 8 0) ∷ cellsRead n (pastActions maxActions (drop 9 r)))
+    fork (eqb (tag r) terminalTag) (λ _. terminalCell r ∷ cellsRead n (drop terminalSize r))
+    (λ _. decisionCell r ∷ cellsRead n (pastActions maxActions (drop decisionSize r)))
 
 unfoldable pub kindOf : ℕ → Kind
 kindOf zero = worst
@@ -81,7 +106,7 @@ kindOf (suc b) = whole
 
 -- The problem and the cells that a sheet's bytes say.
 unfoldable pub problemOf : List ℕ → Problem
-problemOf s = problem (kindOf (getD s 3 0)) (be16 s 6) (nodesRead (be16 s 4) (drop 8 s))
+problemOf s = problem (kindOf (getD s kindIn 0)) (be16 s startIn) (nodesRead (be16 s statesIn) (drop headSize s))
 
 unfoldable pub cellsOf : List ℕ → List Cell
-cellsOf s = cellsRead (be16 s 4) (drop 8 s)
+cellsOf s = cellsRead (be16 s statesIn) (drop headSize s)

@@ -1,5 +1,3 @@
--- unfolding: computing
--- use: Rattle.model.specs.Report.{computing}
 -- One call on a sheet: bytes, table and budget in; the answer, the bytes and the table after. Refusals included.
 use Prim.Native.Nat.{ℕ, zero, suc, _-_, _^_}
 use mathlib.Core.List.{List, [], _∷_, _++_}
@@ -8,26 +6,26 @@ use lib.ListN.{length, replicate}
 use Rattle.model.specs.declared.Outcome.{Outcome}
 use Rattle.model.specs.declared.Outcome.the-variants.{Refused, Settled, Over, Stopped}
 use Rattle.model.specs.declared.Answer.{Answer}
-use Rattle.model.specs.Tests.{fork, also, all, every}
+use Rattle.model.specs.Tests.{fork}
 use Rattle.model.specs.Problem.{Problem, Cell, cellOf, solved}
-use Rattle.model.specs.Format.{be16, be32, successorsBytes, actionsBytes, nodeBytes, nodesBytes, kindByte, write, actionsSize, nodeSize, offsetsFrom}
-use Rattle.model.specs.Read.{actionFits, successorsRead, actionRead, actionsGood, actionsRead, actionsLong, terminalFits, headerFits, decisionFits, nodesGood, nodesRead, cellsRead, kindOf, problemOf, cellsOf}
-use Rattle.model.specs.QValue.{ceiling, join, joined, leastFrom, least}
-use Rattle.model.specs.Questions.{question1, question2, question3, question4, costsInRange, chosenInRange, cellInRange, question5, ascending, successorsInOrder, question6, valueUnder, question7, allSolved, passedBy, markEarned, question8, question9, firstNo, sheetRefusal, refusal, accepted}
-use Rattle.model.specs.Ldfs.{onTest, onVisit, update, ifDear, visitAll, tryOne, tryAll, visitOpen, visit, Passes, onPass, passes, searchOf, work}
+use Rattle.model.specs.Limits.{ceiling}
+use Rattle.model.specs.Format.{write, headSize, offsetsFrom}
+use Rattle.model.specs.Read.{problemOf, cellsOf}
+use Rattle.model.specs.Questions.{sheetRefusal, refusal}
+use Rattle.model.specs.Ldfs.{Passes, searchOf, work}
 
--- document 01's number for each outcome: a refusal's own, and 100, 101, 102
+-- S7.1: the number of each outcome: a refusal's own, and 100, 101, 102
 abbrev pub number : Outcome → ℕ
 number (Refused n) = n
 number Settled = 100
 number Over = 101
 number Stopped = 102
 
--- an answer in document 01's numbers: outcome, price, passes, raises
+-- an answer in numbers: outcome, price, passes, raises
 abbrev pub numbers : Answer → List ℕ
 numbers a = number (a .outcome) ∷ a .price ∷ a .passes ∷ a .raises ∷ []
 
--- settled: start marked, value below the ceiling; over: start marked, value at the ceiling; else stopped
+-- S7.1, settled: start marked, value below the ceiling; over: start marked, value at the ceiling; else stopped
 unfoldable pub outcomeOf : Cell → Outcome
 outcomeOf c = fork (solved c) (λ _. fork (ltb (c .value) ceiling) (λ _. Settled) (λ _. Over)) (λ _. Stopped)
 
@@ -38,11 +36,11 @@ cellsAfter r = searchOf (r .ended) .cells
 abbrev pub raisesOf : Passes → ℕ
 raisesOf r = searchOf (r .ended) .raises
 
--- the largest allowance that a call can be given
+-- S6.9: the largest budget that a call can be given, a number of 64 bits
 abbrev pub largest : ℕ
 largest = 2 ^ 64 - 1
 
--- the answer to a call with a budget that is refused by a question's number, and to one that has worked
+-- S5.2, S7.2: the answer to a call with a budget that is refused by a question's number, and to one that has worked
 abbrev pub refused : ℕ → ℕ → Answer
 refused budget n = record { outcome = Refused n; price = 0; passes = 0; raises = 0; budget = budget }
 
@@ -66,19 +64,20 @@ unfoldable pub answerTo : List ℕ → ℕ → ℕ → Answer
 answerTo s entries budget =
     onRefusal (refusal s entries budget) (λ _. finished (problemOf s) budget (work (problemOf s) (cellsOf s) budget)) (refused budget)
 
--- the same in document 01's numbers
+-- the same in numbers
 unfoldable pub report : List ℕ → ℕ → ℕ → List ℕ
 report s entries budget = numbers (answerTo s entries budget)
 
--- the sheet's bytes after the call: unchanged when refused, else values, marks and chosen checks as work left them
+-- S5.3, S7.4: the sheet's bytes after the call: unchanged when refused, else values, marks and chosen checks as work left them
 unfoldable pub bytesAfter : List ℕ → ℕ → ℕ → List ℕ
-bytesAfter s entries budget = onRefusal (refusal s entries budget) (λ _. write (problemOf s) (cellsAfter (work (problemOf s) (cellsOf s) budget))) (λ _. s)
+bytesAfter s entries budget =
+    onRefusal (refusal s entries budget) (λ _. write (problemOf s) (cellsAfter (work (problemOf s) (cellsOf s) budget))) (λ _. s)
 
--- an index table of so many entries: entry i is the offset of stage i's field, and every entry past the last stage is 0
+-- S3.5: an index table of so many entries: entry i is the offset of stage i's field, and every entry past the last stage is 0
 unfoldable pub indexTable : Problem → ℕ → List ℕ
-indexTable p entries = offsetsFrom 8 (p .nodes) ++ replicate (entries - length (p .nodes)) 0
+indexTable p entries = offsetsFrom headSize (p .nodes) ++ replicate (entries - length (p .nodes)) 0
 
--- a refused call's table: number 1 leaves it unchanged, 2 to 9 leave every entry 0
+-- S5.4, S5.5: a refused call's table: number 1 leaves it unchanged, 2 to 9 leave every entry 0
 unfoldable pub refusedTable : List ℕ → ℕ → List ℕ
 refusedTable t zero = t
 refusedTable t (suc zero) = t
@@ -91,8 +90,3 @@ checkedTable s t = onRefusal (sheetRefusal s (length t)) (λ _. indexTable (prob
 -- the table's content after the call
 unfoldable pub tableAfter : List ℕ → List ℕ → ℕ → List ℕ
 tableAfter s t budget = onRefusal (refusal s (length t) budget) (λ _. indexTable (problemOf s) (length t)) (refusedTable t)
-
--- What computes: whoever names this on an `unfolding` line unfolds all that the three need at a literal sheet.
-unfoldable pub computing : Unit {0}
-unfolding also all every be16 be32 successorsBytes actionsBytes nodeBytes nodesBytes kindByte write actionsSize nodeSize offsetsFrom actionFits successorsRead actionRead actionsGood actionsRead actionsLong terminalFits headerFits decisionFits nodesGood nodesRead cellsRead kindOf problemOf cellsOf ceiling join joined leastFrom least question1 question2 question3 question4 costsInRange chosenInRange cellInRange question5 ascending successorsInOrder question6 valueUnder question7 allSolved passedBy markEarned question8 question9 firstNo sheetRefusal refusal accepted onTest onVisit update ifDear visitAll tryOne tryAll visitOpen visit onPass passes work outcomeOf onRefusal answerTo report bytesAfter indexTable refusedTable checkedTable tableAfter
-computing = tt

@@ -1,17 +1,13 @@
--- The worked rows of document 01, in one table, and one proof across it that the definitions give what is expected.
-use Prim.Native.Nat.{ℕ, zero, suc, _+_, _-_, _*_, _^_, _<_, _≤_, min}
-use mathlib.Core.Path.{_≡_, refl}
-use mathlib.Core.Bool.{Bool, true, false}
+-- The worked examples (S11), in one table. `proofs/RowsHold.antt` has one proof across it that the definitions give what is expected.
+use Prim.Native.Nat.{ℕ, zero, suc, _+_, _-_, _*_, _^_, min}
+use mathlib.Core.Path.{_≡_}
 use mathlib.Core.List.{List, [], _∷_, _++_}
-use native.Mathlib.Omega.{arith}
-use borrow.Author.Tests.{eqb-true, le-leb}
-use lib.Dec.{eqb}
-use lib.ListN.{length, getD, set, take, replicate}
-use Rattle.model.specs.Tests.{also, never, also-true}
+use lib.ListN.{getD, set, take}
 use Rattle.model.specs.Problem.{worst, whole, action, Node, terminal, decision, problem, Cell, cell}
 use Rattle.model.specs.Format.{bytes2, successorsBytes, write}
-use Rattle.model.specs.Questions.{maxStates, refusal}
-use Rattle.model.specs.Report.{largest, report, bytesAfter, tableAfter, computing}
+use Rattle.model.specs.Limits.{maxStates}
+use Rattle.model.specs.Questions.{refusal}
+use Rattle.model.specs.Report.{largest, report, bytesAfter}
 
 -- what a row says: outcome, price, passes and raises in numbers, or that the sheet is accepted
 pub data Expected : Type 0 where
@@ -74,7 +70,10 @@ upFrom s (suc n) = s ∷ upFrom (suc s) n
 
 -- a junction with n checks of cost 1, and the ending that they lead to
 abbrev manyChecks : ℕ → List ℕ
-manyChecks n = 1 ∷ 0 ∷ 5 ∷ 0 ∷ 0 ∷ 2 ∷ 0 ∷ 0 ∷ 3 ∷ 0 ∷ 6 ∷ 0 ∷ 0 ∷ 0 ∷ 0 ∷ 0 ∷ 0 ∷ repeat n (4 ∷ 0 ∷ 6 ∷ 0 ∷ 0 ∷ 0 ∷ 1 ∷ 0 ∷ 1 ∷ []) ++ ending 0
+manyChecks n =
+    1 ∷ 0 ∷ 5 ∷ 0 ∷ 0 ∷ 2 ∷ 0 ∷ 0
+    ∷ 3 ∷ 0 ∷ 6 ∷ 0 ∷ 0 ∷ 0 ∷ 0 ∷ 0 ∷ 0
+    ∷ repeat n (4 ∷ 0 ∷ 6 ∷ 0 ∷ 0 ∷ 0 ∷ 1 ∷ 0 ∷ 1 ∷ []) ++ ending 0
 
 -- a junction with one check of n findings, and the endings that they lead to
 abbrev manyFindings : ℕ → List ℕ
@@ -82,11 +81,15 @@ manyFindings n =
     (1 ∷ 0 ∷ 5 ∷ 0 ∷ 0 ∷ suc n ∷ 0 ∷ 0 ∷ 3 ∷ 0 ∷ 6 ∷ 0 ∷ 0 ∷ 0 ∷ 0 ∷ 0 ∷ 0 ∷ 4 ∷ bytes2 (4 + 2 * n))
     ++ (0 ∷ 0 ∷ 0 ∷ 1 ∷ []) ++ successorsBytes (upFrom 1 n) ++ repeat n (ending 0)
 
--- Two sheets of our own, each for a slip that document 01's rows leave unseen.
+-- Two sheets beside those of S11, each for a slip that its rows leave unseen.
 -- The chosen check is the one that passed: check 0 costs as little as check 1, and is abandoned because stage 1 fails.
 abbrev abandoned : List ℕ
 abandoned =
-    write (problem worst 0 (decision (action 100 (1 ∷ 3 ∷ []) ∷ action 150 (2 ∷ []) ∷ []) ∷ decision (action 10 (4 ∷ []) ∷ []) ∷ terminal 0 ∷ terminal 50 ∷ terminal 20 ∷ []))
+    write
+    (problem worst 0 (
+    decision (action 100 (1 ∷ 3 ∷ []) ∷ action 150 (2 ∷ []) ∷ []) ∷ decision (action 10 (4 ∷ []) ∷ [])
+    ∷ terminal 0 ∷ terminal 50 ∷ terminal 20 ∷ []
+    ))
     (cell 150 0 0 ∷ cell 0 0 0 ∷ cell 0 0 0 ∷ cell 50 0 0 ∷ cell 0 0 0 ∷ [])
 
 -- A sum that does not fit 32 bits: a whole sheet, settled, whose start leads to m stages at the ceiling. Stage s > 0 leads to the sixteen
@@ -102,9 +105,9 @@ doubled (suc i) = cell (min (1000000 * 2 ^ suc i) 1000000000) 1 0 ∷ doubled i
 abbrev atCeiling : ℕ → List ℕ
 atCeiling m = write (problem whole 0 (decision (action 1 (upFrom 1 m) ∷ []) ∷ doubling 1 (9 + m))) (cell 1000000000 1 0 ∷ doubled (9 + m))
 
--- a row with a table of 1,024 entries
+-- a row with a table of as many entries as are needed
 abbrev row : List ℕ → ℕ → Expected → Row
-row s budget e = record { sheet = s; entries = 1024; budget = budget; expected = e }
+row s budget e = record { sheet = s; entries = maxStates; budget = budget; expected = e }
 
 -- settled, over, stopped, refused: price, passes, raises
 abbrev settled : ℕ → ℕ → ℕ → Expected
@@ -119,14 +122,15 @@ stopped price passes raises = answers (102 ∷ price ∷ passes ∷ raises ∷ [
 abbrev refusedBy : ℕ → Expected
 refusedBy n = answers (n ∷ 0 ∷ 0 ∷ 0 ∷ [])
 
--- the bytes that a call with 1,024 table entries leaves
+-- the bytes that a call with such a table leaves
 abbrev carriedOn : List ℕ → ℕ → List ℕ
-carriedOn s budget = bytesAfter s 1024 budget
+carriedOn s budget = bytesAfter s maxStates budget
 
--- Document 01's rows in its order, those marked P first; then rows of our own.
+-- The rows of S11 in its order, but for the chain of 999 junctions (S11.13), which is too large to compute here; then more rows.
 unfoldable pub rows : List Row
 unfolding repeat upFrom doubling doubled
 rows =
+    -- S11.1 to S11.12
     row (oneEnding 0) largest (settled 0 1 0)
     ∷ row (oneEnding 70) 1 (settled 70 1 1)
     ∷ row sheetA largest (settled 500 3 3)
@@ -140,14 +144,14 @@ rows =
     ∷ row (sheetB 0 0 0 0) largest (refusedBy 6)
     ∷ row (sheetB 0 0 1 1) largest (refusedBy 8)
     ∷ row sheetA 0 (refusedBy 9)
-    -- not marked P
+    -- S11.14, S11.15
     ∷ row (take 80 (set sheetA 23 0)) largest (refusedBy 4)
     ∷ row (manyChecks 16) largest accepts
     ∷ row (manyChecks 17) largest (refusedBy 4)
     ∷ row (manyFindings 16) largest accepts
     ∷ row (manyFindings 17) largest (refusedBy 4)
-    -- our own
-    ∷ record { sheet = sheetA; entries = 1023; budget = largest; expected = refusedBy 1 }
+    -- beside those of S11
+    ∷ record { sheet = sheetA; entries = maxStates - 1; budget = largest; expected = refusedBy 1 }
     ∷ row (take 19 (oneEnding 0)) largest (refusedBy 2)
     ∷ row (set sheetA 23 0) largest (refusedBy 5)
     ∷ row abandoned largest (settled 150 1 1)
@@ -157,56 +161,6 @@ rows =
     ∷ row (atCeiling 16) largest (over 1000000000 1 0)
     ∷ []
 
--- The test of a row, and of all.
-same : List ℕ → List ℕ → Bool
-same [] [] = true
-same [] (y ∷ ys) = false
-same (x ∷ xs) [] = false
-same (x ∷ xs) (y ∷ ys) = also (eqb x y) (λ _. same xs ys)
-
-passes : List ℕ → ℕ → ℕ → Expected → Bool
-passes s entries budget (answers xs) = same (report s entries budget) xs
-passes s entries budget accepts = eqb (refusal s entries budget) 0
-
-allPass : List Row → Bool
-allPass [] = true
-allPass (r ∷ more) = also (passes (r .sheet) (r .entries) (r .budget) (r .expected)) (λ _. allPass more)
-
-rows-pass : allPass rows ≡ true
-unfolding computing rows allPass passes same
-rows-pass = refl
-
--- The test that passes is the row that holds.
-same-is : (xs ys : List ℕ) → same xs ys ≡ true → xs ≡ ys
-unfolding same
-same-is [] [] h = refl
-same-is [] (y ∷ ys) h = never h
-same-is (x ∷ xs) [] h = never h
-same-is (x ∷ xs) (y ∷ ys) h = let g = also-true _ _ h in let e : x ≡ y = eqb-true _ _ (g .0) in let r : xs ≡ ys = same-is xs ys (g .1) in cc
-
-passes-says : (s : List ℕ) (entries budget : ℕ) (e : Expected) → passes s entries budget e ≡ true → Says s entries budget e
-unfolding passes Says
-passes-says s entries budget (answers xs) h = same-is _ _ h
-passes-says s entries budget accepts h = eqb-true _ _ h
-
+-- row i of a table
 abbrev pub rowAt : List Row → ℕ → Row
 rowAt rs i = getD rs i (row [] 0 accepts)
-
-all-hold : (rs : List Row) → allPass rs ≡ true → (i : ℕ) → i < length rs → Holds (rowAt rs i)
-unfolding allPass
-all-hold [] h i lt = absurd (omega arith)
-all-hold (r ∷ more) h zero lt = passes-says (r .sheet) (r .entries) (r .budget) (r .expected) (also-true _ _ h .0)
-all-hold (r ∷ more) h (suc i) lt = all-hold more (also-true _ _ h .1) i (omega arith)
-
--- every row of the table holds
-pub rows-hold : (i : ℕ) → i < length rows → Holds (rowAt rows i)
-rows-hold = all-hold rows rows-pass
-
--- Sheet A has 81 bytes and offsets 8, 37, 57, 69; whatever a long enough table held, its other entries become 0.
-pub length-A : length sheetA ≡ 81
-length-A = refl
-
-pub offsets-A : (t : List ℕ) → maxStates ≤ length t →
-    tableAfter sheetA t largest ≡ 8 ∷ 37 ∷ 57 ∷ 69 ∷ replicate (length t - 4) 0
-unfolding computing
-offsets-A t h = rw (le-leb maxStates (length t) h)

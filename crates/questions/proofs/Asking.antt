@@ -11,23 +11,25 @@ use Rattle.model.specs.Tests.{all, every}
 use Rattle.model.specs.Problem.{Problem, Cell, states}
 use Rattle.model.specs.Format.{Bytes, be16, offsetsFrom}
 use Rattle.model.specs.Read.{nodesGood, nodesRead, problemOf, cellsOf}
-use Rattle.model.specs.Questions.{maxStates, maxBytes, question1, question2, question3, question4}
-use Rattle.model.specs.Questions.{question5, question6, question7, question8, Question, sheetQuestions, firstNo, sheetRefusal}
+use Rattle.model.specs.Limits.{maxStates, minBytes, maxBytes}
+use Rattle.model.specs.Questions.{question1, question2, question3, question4}
+use Rattle.model.specs.Questions.{question5, question6, question7, question8, Question, question, sheetQuestions, firstNo, sheetRefusal}
+use Rattle.model.proofs.QuestionLaws.{first-from}
 use Rattle.model.specs.Report.{onRefusal, indexTable, refusedTable, checkedTable}
 use Rattle.layout.proofs.Same.{read-writes, read-shaped}
 use Rattle.layout.proofs.Index.{states-read}
 use Rattle.sheet.specs.Sheet.{Within}
 use Rattle.sheet.proofs.Laws.{indexed}
-use Rattle.questions.specs.declared.states.Question.the-variants.{Ranges, Order, Bounds, Marks}
+use Rattle.questions.specs.declared.states.Question.the-variants.{Ranges, Findings, Values, Marks}
 use Rattle.questions.specs.declared.Verdict.{Verdict}
 use Rattle.questions.specs.declared.Verdict.the-variants.{Accepted, Refused}
 use Rattle.questions.specs.Put.{passesAt, rangesAt, statesNo, indexedBefore, askedTable}
-use Rattle.questions.specs.Verdicts.{verdict}
+use Rattle.questions.specs.Verdicts.{verdictNumber, verdict}
 
 -- a question answered yes
-yes : (n : ℕ) (ask : Question) (more : List Question) → ask tt ≡ true → firstNo n (ask ∷ more) ≡ firstNo (suc n) more
+yes : (ask : Question) (more : List Question) → ask .answer tt ≡ true → firstNo (ask ∷ more) ≡ firstNo more
 unfolding firstNo
-yes n ask more h = rw h
+yes ask more h = rw h
 
 -- questions 5 to 8, state by state
 module _ (p : Problem) (cells : List Cell) where
@@ -36,13 +38,13 @@ module _ (p : Problem) (cells : List Cell) where
     unfolding question5 passesAt rangesAt
     five-from h g = ap (λ (k : ℕ). every k (passesAt Ranges p cells)) (sym count) ∙ sym h ∙ g
 
-    pub six-from : r ≡ every n (passesAt Order p cells) → r ≡ b → question6 p ≡ b
+    pub six-from : r ≡ every n (passesAt Findings p cells) → r ≡ b → question6 p ≡ b
     unfolding question6 passesAt
-    six-from h g = ap (λ (k : ℕ). every k (passesAt Order p cells)) (sym count) ∙ sym h ∙ g
+    six-from h g = ap (λ (k : ℕ). every k (passesAt Findings p cells)) (sym count) ∙ sym h ∙ g
 
-    pub seven-from : r ≡ every n (passesAt Bounds p cells) → r ≡ b → question7 p cells ≡ b
+    pub seven-from : r ≡ every n (passesAt Values p cells) → r ≡ b → question7 p cells ≡ b
     unfolding question7 passesAt
-    seven-from h g = ap (λ (k : ℕ). every k (passesAt Bounds p cells)) (sym count) ∙ sym h ∙ g
+    seven-from h g = ap (λ (k : ℕ). every k (passesAt Values p cells)) (sym count) ∙ sym h ∙ g
 
     pub eight-from : r ≡ every n (passesAt Marks p cells) → r ≡ b → question8 p cells ≡ b
     unfolding question8 passesAt
@@ -73,32 +75,32 @@ module _ (p : Problem) (cells : List Cell) where
         no-none a = rw (five, six, seven, a)
 
 module _ (s : List ℕ) where
-  pub too-short : length s < 20 → 2 ≡ firstNo 2 (sheetQuestions s)
+  pub too-short : length s < minBytes → 2 ≡ firstNo (sheetQuestions s)
   unfolding firstNo question2 all
-  too-short h = rw (lt-leb 20 (length s) h)
+  too-short h = rw (lt-leb minBytes (length s) h)
 
-  module _ (ge : 20 ≤ length s) where
-    pub too-long : maxBytes < length s → 2 ≡ firstNo 2 (sheetQuestions s)
+  module _ (ge : minBytes ≤ length s) where
+    pub too-long : maxBytes < length s → 2 ≡ firstNo (sheetQuestions s)
     unfolding firstNo question2 all
-    too-long h = rw (le-leb 20 (length s) ge, lt-leb (length s) maxBytes h)
+    too-long h = rw (le-leb minBytes (length s) ge, lt-leb (length s) maxBytes h)
 
     module _ (le : length s ≤ maxBytes) where
       two : question2 s ≡ true
       unfolding question2 all
-      two = rw (le-leb 20 (length s) ge, le-leb (length s) maxBytes le)
+      two = rw (le-leb minBytes (length s) ge, le-leb (length s) maxBytes le)
 
-      pub no-3 : question3 s ≡ false → 3 ≡ firstNo 2 (sheetQuestions s)
+      pub no-3 : question3 s ≡ false → 3 ≡ firstNo (sheetQuestions s)
       unfolding firstNo
       no-3 h = rw (two, h)
 
       module _ (head : question3 s ≡ true) (n : ℕ) (count : n ≡ be16 s 4) where
-        pub no-4 : nodesGood n (drop 8 s) ≡ false → 4 ≡ firstNo 2 (sheetQuestions s)
+        pub no-4 : nodesGood n (drop 8 s) ≡ false → 4 ≡ firstNo (sheetQuestions s)
         unfolding firstNo question4
         no-4 h = rw (two, head, ← count, h)
 
--- A sheet of a right length whose head is in place, as are its n stages.
+-- A sheet of a right length whose head is in place, as are its n states.
 pub record Laid (s : List ℕ) (n : ℕ) : Type 0 where
-  pub least : 20 ≤ length s
+  pub least : minBytes ≤ length s
   pub most : length s ≤ maxBytes
   pub head : question3 s ≡ true
   pub count : n ≡ be16 s 4
@@ -110,7 +112,7 @@ module _ {s : List ℕ} {n : ℕ} (h : Laid s n) where
   in-place = rw (← h .count) (h .good)
 
   -- questions 5 to 8 are left
-  pub then-states : firstNo 2 (sheetQuestions s) ≡ statesNo (problemOf s) (cellsOf s)
+  pub then-states : firstNo (sheetQuestions s) ≡ statesNo (problemOf s) (cellsOf s)
   unfolding firstNo statesNo
   then-states = rw (two s (h .least) (h .most), h .head, in-place)
 
@@ -133,17 +135,6 @@ module _ {s : List ℕ} {n : ℕ} (h : Laid s n) where
   pub table-is : (t rest : List ℕ) → t ≡ offsetsFrom 8 (nodesRead n (drop 8 s)) ++ drop n rest → t ≡ indexedBefore s rest
   table-is t rest e = e ∙ rw (nodes-are, states-are)
 
--- the first no of questions numbered from n is none, or n or more
-pub first-from : (n : ℕ) (asked : List Question) → (firstNo n asked ≡ 0) ⊎ (n ≤ firstNo n asked)
-unfolding firstNo
-first-from n [] = inl refl
-first-from n (ask ∷ more) = go (ask tt) refl (first-from (suc n) more)
-  where
-    go : (b : Bool) → ask tt ≡ b → (firstNo (suc n) more ≡ 0) ⊎ (suc n ≤ firstNo (suc n) more) → (firstNo n (ask ∷ more) ≡ 0) ⊎ (n ≤ firstNo n (ask ∷ more))
-    go true e (inl z) = inl (rw e z)
-    go true e (inr l) = inr (rw e (omega arith))
-    go false e _ = inr (rw e (omega arith))
-
 -- the table t once it is cleared: all zeros
 abbrev pub cleared : List ℕ → List ℕ
 cleared t = take 0 t ++ replicate (length t - 0) 0
@@ -160,11 +151,11 @@ module _ (s t : List ℕ) where
 
   module _ (ge : maxStates ≤ length t) where
     -- question 1 is answered yes
-    refusal-is : sheetRefusal s (length t) ≡ firstNo 2 (sheetQuestions s)
+    refusal-is : sheetRefusal s (length t) ≡ firstNo (sheetQuestions s)
     unfolding sheetRefusal question1
-    refusal-is = yes 1 (λ _. question1 (length t)) (sheetQuestions s) (le-leb maxStates (length t) ge)
+    refusal-is = yes (question 1 (λ _. question1 (length t))) (sheetQuestions s) (le-leb maxStates (length t) ge)
 
-    module _ (r : ℕ) (is : r ≡ firstNo 2 (sheetQuestions s)) where
+    module _ (r : ℕ) (is : r ≡ firstNo (sheetQuestions s)) where
       pub accepted-table : (t′ : List ℕ) → r ≡ 0 → t′ ≡ indexedBefore s t →
           (Accepted ≡ verdict (sheetRefusal s (length t))) × (t′ ≡ askedTable s t)
       unfolding askedTable verdict onRefusal
@@ -176,7 +167,7 @@ module _ (s t : List ℕ) where
       refused-table t′ t″ some long last = rw (refusal-is, ← is) (go r two)
         where
           two : 2 ≤ r
-          two = ⊎-elim (λ z. absurd (some (is ∙ z))) (λ l. rw is l) (first-from 2 (sheetQuestions s))
+          two = ⊎-elim (λ z. absurd (some (is ∙ z))) (λ l. rw is l) (first-from 2 (sheetQuestions s) refl)
 
           go : (k : ℕ) → 2 ≤ k → (Refused k ≡ verdict k) × (t″ ≡ onRefusal k (λ _. indexedBefore s t) (refusedTable t))
           go zero le = absurd (omega arith)
@@ -189,7 +180,7 @@ zeros-left m zero = let e : m - 0 ≡ m = omega arith in rw e
 zeros-left zero (suc n) = let e : 0 - suc n ≡ 0 = omega arith in rw e
 zeros-left (suc m) (suc n) = let e : suc m - suc n ≡ m - n = omega arith in rw e (zeros-left m n)
 
--- a cleared table that begins with the stages' offsets, or is refused, is as the table t becomes, but where question 1 refuses
+-- a cleared table that begins with the states' offsets, or is refused, is as the table t becomes, but where question 1 refuses
 pub from-cleared : (s t : List ℕ) (k : ℕ) → (k ≡ 0) ⊎ (2 ≤ k) →
     onRefusal k (λ _. indexedBefore s (cleared t)) (refusedTable (cleared t))
     ≡ onRefusal k (λ _. indexTable (problemOf s) (length t)) (refusedTable t)
@@ -211,5 +202,11 @@ unfolding askedTable checkedTable
 cleared-table s t t″ ge answer table =
     let long = cleared-length t in
     let number : (sheetRefusal s (length t) ≡ 0) ⊎ (2 ≤ sheetRefusal s (length t)) =
-    rw (refusal-is s t ge) (first-from 2 (sheetQuestions s)) in
+    rw (refusal-is s t ge) (first-from 2 (sheetQuestions s) refl) in
     (rw long at answer, (rw long at table) ∙ from-cleared s t (sheetRefusal s (length t)) number)
+
+-- a verdict's number is the one that it was made of
+pub verdict-number : (n : ℕ) → verdictNumber (verdict n) ≡ n
+unfolding verdict
+verdict-number zero = refl
+verdict-number (suc n) = refl

@@ -6,17 +6,17 @@ use mathlib.Core.List.{List}
 use native.Mathlib.Omega.{arith}
 use borrow.Author.Tests.{ltb-true}
 use lib.ListN.{length}
-use Rattle.model.specs.Tests.{all-true, every-true}
+use Rattle.model.proofs.TestLaws.{all-true, every-true}
 use Rattle.model.specs.Problem.{Node, terminal, decision, Problem, Cell, states, nodeAt, cellOf, solved}
 use Rattle.model.specs.Format.{actionsOf}
 use Rattle.model.specs.Questions.{chosenInRange, cellInRange, question5, question6}
 use Rattle.questions.specs.declared.states.Question.{Question}
-use Rattle.questions.specs.declared.states.Question.the-variants.{Bounds, Marks}
+use Rattle.questions.specs.declared.states.Question.the-variants.{Values, Marks}
 use Rattle.questions.specs.Put.{ChosenExists, Before}
 
 module _ (p : Problem) (cells : List Cell) (question : Question) (before : Before question p cells) where
   -- questions 7 and 8 suppose a yes to question 6
-  pub bounds-ordered : question ≡ Bounds → question6 p ≡ true
+  pub bounds-ordered : question ≡ Values → question6 p ≡ true
   bounds-ordered e = subst (λ (x : Question). Before x p cells) e before
 
   pub marks-ordered : question ≡ Marks → question6 p ≡ true
@@ -25,8 +25,11 @@ module _ (p : Problem) (cells : List Cell) (question : Question) (before : Befor
   -- question 5 gives that a solved decision's chosen action exists
   pub marks-chosen : question ≡ Marks → (s : ℕ) → s < states p → solved (cellOf cells s) ≡ true → ChosenExists p cells s
   unfolding question5 cellInRange chosenInRange actionsOf
-  marks-chosen e s lt sol = go (nodeAt p s) (all-true _ (all-true _ (every-true (states p) _ (subst (λ (x : Question). Before x p cells) e before .0) s lt) .1 .0) .1 .1 .0)
+  marks-chosen e s lt sol = go (nodeAt p s) (all-true _ (all-true _ (every-true (states p) _ in-range s lt) .1 .0) .1 .1 .0)
     where
+      in-range : question5 p cells ≡ true
+      in-range = subst (λ (x : Question). Before x p cells) e before .0
+
       go : (n : Node) → chosenInRange n (cellOf cells s) ≡ true → 0 < length (actionsOf n) → cellOf cells s .chosen < length (actionsOf n)
       go (terminal cost) h some = absurd (omega arith)
       go (decision acts) h some = ltb-true _ _ (rw sol at h)

@@ -7,12 +7,14 @@ use native.Mathlib.Omega.{arith}
 use borrow.Author.Tests.{le-leb, lt-leb, eq-eqb, ne-eqb}
 use lib.Dec.{leb, ltb, eqb}
 use lib.ListN.{length, drop}
-use Rattle.model.specs.Tests.{fork, all, all-one}
+use Rattle.model.proofs.TestLaws.{all-one}
+use Rattle.model.specs.Tests.{fork, all}
 use Rattle.model.specs.Problem.{Node, terminal, decision, Cell, nodeAt, cellOf, valueOf, solved}
 use Rattle.model.specs.Format.{actionsOf, actionOffset}
 use Rattle.model.specs.Read.{actionRead, problemOf, cellsOf}
-use Rattle.model.specs.QValue.{ceiling, q}
-use Rattle.model.specs.Questions.{maxCost, costsInRange, chosenInRange, cellInRange, question6, allSolved, passedBy, markEarned}
+use Rattle.model.specs.Limits.{ceiling, maxCost}
+use Rattle.model.specs.QValue.{q}
+use Rattle.model.specs.Questions.{costsInRange, chosenInRange, cellInRange, question6, allSolved, passedBy, markEarned}
 use Rattle.sheet.specs.Sheet.{Terminal, Decision, Priced, costOf}
 use Rattle.sheet.proofs.Laws.{actionsAt, is-terminal}
 use Rattle.questions.specs.Put.{rangesAt, countInRange, ChosenExists}
@@ -59,7 +61,8 @@ module _ (n : Node) (c : Cell) where
             go true e = absurd (omega (arith, by-count true e))
             go false e = rw e
 
-        chosen-range : n ≡ decision (actionsOf n) → (m ≡ 0 → ⊥) → fork (solved c) (λ _. ltb (c .chosen) m) (λ _. eqb (c .chosen) 0) ≡ rangesAt n c
+        chosen-range : n ≡ decision (actionsOf n) → (m ≡ 0 → ⊥) →
+            fork (solved c) (λ _. ltb (c .chosen) m) (λ _. eqb (c .chosen) 0) ≡ rangesAt n c
         unfolding rangesAt chosenInRange all
         chosen-range node some = go (costsInRange n) refl
           where
@@ -78,11 +81,13 @@ module _ (n : Node) (c : Cell) where
           open-range e = ap (λ (x : ℕ). eqb x 0) is ∙ (rw (ne-eqb (c .mark) 1 e) at (chosen-range node some))
 
 -- question 8 of a solved state: a terminal, and a decision whose chosen action stands at o
-pub earned-terminal : {s t : List ℕ} {i : ℕ} → Terminal s t i → eqb (valueOf (cellsOf s) i) (costOf (nodeAt (problemOf s) i)) ≡ markEarned (problemOf s) (cellsOf s) i (nodeAt (problemOf s) i)
+pub earned-terminal : {s t : List ℕ} {i : ℕ} → Terminal s t i →
+    eqb (valueOf (cellsOf s) i) (costOf (nodeAt (problemOf s) i)) ≡ markEarned (problemOf s) (cellsOf s) i (nodeAt (problemOf s) i)
 unfolding markEarned costOf
 earned-terminal {s} {t} {i} d = rw (is-terminal (nodeAt (problemOf s) i) (d .tag))
 
-module _ {s t : List ℕ} {i : ℕ} (d : Decision s t i) (ex : ChosenExists (problemOf s) (cellsOf s) i) (k : ℕ) (is : k ≡ cellOf (cellsOf s) i .chosen) where
+module _ {s t : List ℕ} {i : ℕ} (d : Decision s t i) (ex : ChosenExists (problemOf s) (cellsOf s) i)
+    (k : ℕ) (is : k ≡ cellOf (cellsOf s) i .chosen) where
   pub chosen-below : k < length (actionsAt (problemOf s) i)
   chosen-below = rw is (ex (some d))
 
@@ -95,11 +100,13 @@ module _ {s t : List ℕ} {i : ℕ} (d : Decision s t i) (ex : ChosenExists (pro
 
     module _ {value price : ℕ} (v : value ≡ valueOf (cellsOf s) i)
         (x : price ≡ q (problemOf s .kind) (valueOf (cellsOf s)) (actionRead (drop o s))) where
-      passed : markEarned (problemOf s) (cellsOf s) i (nodeAt (problemOf s) i) ≡ all (eqb value price ∷ allSolved (cellsOf s) (actionRead (drop o s) .successors) ∷ [])
+      passed : markEarned (problemOf s) (cellsOf s) i (nodeAt (problemOf s) i) ≡
+          all (eqb value price ∷ allSolved (cellsOf s) (actionRead (drop o s) .successors) ∷ [])
       unfolding passedBy
       passed = earned-is (problemOf s) i (d .tag) (cellsOf s) ∙ rw (v, x, along-is d along chosen-below, is)
 
-      pub earned-decision : value ≡ price → (b : Bool) → b ≡ allSolved (cellsOf s) (actionRead (drop o s) .successors) → b ≡ markEarned (problemOf s) (cellsOf s) i (nodeAt (problemOf s) i)
+      pub earned-decision : value ≡ price → (b : Bool) → b ≡ allSolved (cellsOf s) (actionRead (drop o s) .successors) →
+          b ≡ markEarned (problemOf s) (cellsOf s) i (nodeAt (problemOf s) i)
       unfolding all
       earned-decision e b be = be ∙ sym (passed ∙ rw (eq-eqb value price e) (all-one _))
 

@@ -9,15 +9,18 @@ use borrow.Author.Tests.{le-leb, lt-leb, lt-ltb, le-ltb, ltb-true, ltb-false, eq
 use lib.Dec.{leb, ltb, eqb}
 use lib.ListN.{length, getD, drop, drop-of-length-le}
 use lib.Seq.{drop-cons}
-use Rattle.model.specs.Tests.{also, all, every, true-also, every-true, every-false}
+use Rattle.model.proofs.TestLaws.{true-also, every-true, every-false}
+use Rattle.model.specs.Tests.{also, all, every}
 use Rattle.model.specs.Problem.{decision, Problem, Cell, states, nodeAt, actionAt, cellOf, valueOf, solved}
 use Rattle.model.specs.Format.{terminalTag, decisionTag, actionTag, tagOf, actionsOf, actionOffset}
 use Rattle.model.specs.Read.{actionFits, actionRead, problemOf, cellsOf}
 use Rattle.model.specs.QValue.{q}
-use Rattle.model.specs.Questions.{maxCost, costsInRange, ascending, successorsInOrder, question6, valueUnder, allSolved, passedBy, markEarned}
+use Rattle.model.specs.Limits.{maxCost, maxActions}
+use Rattle.model.specs.Questions.{costsInRange, ascending, successorsInOrder, question6, valueUnder, allSolved, passedBy, markEarned}
 use Rattle.layout.proofs.Shapes.{member, ascending-in}
 use Rattle.sheet.specs.Sheet.{Sheet, Within, Terminal, Decision, Priced, costOf}
-use Rattle.sheet.proofs.Laws.{actionsAt, not-terminal, is-terminal, is-decision, few-actions, action-stands, action-ends, action-is, action-in-place, action-priced, action-after}
+use Rattle.sheet.proofs.Laws.{actionsAt, not-terminal, is-terminal, is-decision, few-actions, action-stands, action-ends}
+use Rattle.sheet.proofs.Laws.{action-is, action-in-place, action-priced, action-after}
 use Rattle.questions.specs.Put.{countInRange}
 
 -- every: one more that passes, all of them, one that does not
@@ -60,7 +63,8 @@ module _ (p : Problem) (s : ℕ) (tag : tagOf (nodeAt p s) ≡ decisionTag) wher
   unfolding valueUnder actionsOf
   under-is cells = rw node
 
-  pub earned-is : (cells : List Cell) → markEarned p cells s (nodeAt p s) ≡ passedBy p cells s (actionAt (actionsAt p s) (cellOf cells s .chosen))
+  pub earned-is : (cells : List Cell) →
+      markEarned p cells s (nodeAt p s) ≡ passedBy p cells s (actionAt (actionsAt p s) (cellOf cells s .chosen))
   unfolding markEarned actionsOf
   earned-is cells = rw node
 
@@ -129,10 +133,13 @@ unfolding all
 cost-fits c g h = rw (le-leb 1 c g, le-leb c maxCost h)
 
 -- question 6 gives that successors are states
-below : (p : Problem) (s : ℕ) → s < states p → tagOf (nodeAt p s) ≡ decisionTag → question6 p ≡ true → (k : ℕ) → k < length (actionsAt p s) →
-    (j : ℕ) → j < length (actionAt (actionsAt p s) k .successors) → getD (actionAt (actionsAt p s) k .successors) j 0 < states p
+below : (p : Problem) (s : ℕ) → s < states p → tagOf (nodeAt p s) ≡ decisionTag → question6 p ≡ true →
+    (k : ℕ) → k < length (actionsAt p s) → (j : ℕ) → j < length (actionAt (actionsAt p s) k .successors) →
+    getD (actionAt (actionsAt p s) k .successors) j 0 < states p
 unfolding question6
-below p s lt tag h k lk j lj = ascending-in s (states p) _ (every-true _ _ (sym (order-is p s tag (states p)) ∙ every-true (states p) _ h s lt) k lk) _ (member _ j lj) .1
+below p s lt tag h k lk j lj =
+    let ordered = sym (order-is p s tag (states p)) ∙ every-true (states p) _ h s lt in
+    ascending-in s (states p) _ (every-true _ _ ordered k lk) _ (member _ j lj) .1
 
 -- A loop over the actions of decision i: action k stands at o.
 pub record Along (s : List ℕ) (i k o : ℕ) : Type 0 where
@@ -144,7 +151,7 @@ module _ {s t : List ℕ} {i : ℕ} (d : Decision s t i) where
   h = d .within .sheet
 
   -- it has 1 to 16 actions
-  pub few : length (actionsAt (problemOf s) i) ≤ 16
+  pub few : length (actionsAt (problemOf s) i) ≤ maxActions
   few = few-actions h i (d .within .below) (d .tag) .1
 
   pub some : 0 < length (actionsAt (problemOf s) i)
@@ -177,11 +184,13 @@ module _ {s t : List ℕ} {i : ℕ} (d : Decision s t i) where
           action-priced h i lt (d .tag) k o (a .at) lk (below (problemOf s) i lt (d .tag) six k lk)
 
   -- the count, from the test of all costs
-  pub counted-all : (k : ℕ) → every k (costOfFits (problemOf s) i) ≡ true → k ≤ length (actionsAt (problemOf s) i) → length (actionsAt (problemOf s) i) ≤ k → k ≡ countInRange (nodeAt (problemOf s) i)
+  pub counted-all : (k : ℕ) → every k (costOfFits (problemOf s) i) ≡ true →
+      k ≤ length (actionsAt (problemOf s) i) → length (actionsAt (problemOf s) i) ≤ k → k ≡ countInRange (nodeAt (problemOf s) i)
   unfolding countInRange
   counted-all k g le ge = rw (sym (all-stepped _ _ _ (costs-are (problemOf s) i (d .tag)) k g le ge)) (omega arith)
 
-  pub counted-none : (k : ℕ) → k < length (actionsAt (problemOf s) i) → costOfFits (problemOf s) i k ≡ false → 0 ≡ countInRange (nodeAt (problemOf s) i)
+  pub counted-none : (k : ℕ) → k < length (actionsAt (problemOf s) i) → costOfFits (problemOf s) i k ≡ false →
+      0 ≡ countInRange (nodeAt (problemOf s) i)
   unfolding countInRange
   counted-none k lt g = rw (sym (stepped-out _ _ _ (costs-are (problemOf s) i (d .tag)) k lt g))
 
@@ -194,7 +203,8 @@ module _ {s t : List ℕ} {i : ℕ} (w : Within s t i) (b : Bool) (e : b ≡ eqb
   decision-from g = record { within = w; tag = not-terminal (nodeAt (problemOf s) i) (eqb-false _ _ (sym e ∙ g)) }
 
 -- question 7 at a terminal, and of one action
-pub under-terminal : {s t : List ℕ} {i : ℕ} → Terminal s t i → leb (valueOf (cellsOf s) i) (costOf (nodeAt (problemOf s) i)) ≡ valueUnder (problemOf s) (cellsOf s) i (nodeAt (problemOf s) i)
+pub under-terminal : {s t : List ℕ} {i : ℕ} → Terminal s t i →
+    leb (valueOf (cellsOf s) i) (costOf (nodeAt (problemOf s) i)) ≡ valueUnder (problemOf s) (cellsOf s) i (nodeAt (problemOf s) i)
 unfolding valueUnder costOf
 under-terminal {s} {t} {i} d = rw (is-terminal (nodeAt (problemOf s) i) (d .tag))
 
@@ -217,8 +227,10 @@ order-terminal {s} {t} {i} d n = rw (is-terminal (nodeAt (problemOf s) i) (d .ta
 
 -- questions 6 and 7 of a decision
 module _ {s t : List ℕ} {i : ℕ} (d : Decision s t i) where
-  pub order-of : (n : ℕ) → successorsInOrder n i (nodeAt (problemOf s) i) ≡ every (length (actionsAt (problemOf s) i)) (orderOf (problemOf s) n i)
+  pub order-of : (n : ℕ) →
+      successorsInOrder n i (nodeAt (problemOf s) i) ≡ every (length (actionsAt (problemOf s) i)) (orderOf (problemOf s) n i)
   order-of n = order-is (problemOf s) i (d .tag) n
 
-  pub under-of : valueUnder (problemOf s) (cellsOf s) i (nodeAt (problemOf s) i) ≡ every (length (actionsAt (problemOf s) i)) (priceOver (problemOf s) (cellsOf s) i)
+  pub under-of : valueUnder (problemOf s) (cellsOf s) i (nodeAt (problemOf s) i) ≡
+      every (length (actionsAt (problemOf s) i)) (priceOver (problemOf s) (cellsOf s) i)
   under-of = under-is (problemOf s) i (d .tag) (cellsOf s)

@@ -6,13 +6,13 @@ use mathlib.Core.List.{List, [], _∷_, _++_}
 use lib.ListN.{length, drop}
 use Rattle.model.specs.Tests.{fork, all}
 use Rattle.model.specs.Problem.{Node, Problem, Cell, states, nodeAt, cellOf, solved}
-use Rattle.model.specs.Format.{be16, offsetsFrom, actionsOf}
-use Rattle.model.specs.Read.{actionFits, problemOf}
+use Rattle.model.specs.Format.{headSize, offsetsFrom, actionsOf}
+use Rattle.model.specs.Read.{fieldSize, actionFits, problemOf}
 use Rattle.model.specs.Questions.{costsInRange, cellInRange, successorsInOrder, valueUnder, markEarned}
-use Rattle.model.specs.Questions.{question5, question6, question7, question8, firstNo, sheetRefusal}
+use Rattle.model.specs.Questions.{question5, question6, stateQuestions, firstNo, sheetRefusal}
 use Rattle.model.specs.Report.{onRefusal, refusedTable}
 use Rattle.questions.specs.declared.states.Question.{Question}
-use Rattle.questions.specs.declared.states.Question.the-variants.{Ranges, Order, Bounds, Marks}
+use Rattle.questions.specs.declared.states.Question.the-variants.{Ranges, Findings, Values, Marks}
 
 -- question 5 of one state
 unfoldable pub rangesAt : Node → Cell → Bool
@@ -29,29 +29,29 @@ ChosenExists p cells s = 0 < length (actionsOf (nodeAt p s)) → cellOf cells s 
 -- what a question may suppose
 abbrev pub Before : Question → Problem → List Cell → Type 0
 Before Ranges p cells = Unit {0}
-Before Order p cells = Unit {0}
-Before Bounds p cells = question6 p ≡ true
+Before Findings p cells = Unit {0}
+Before Values p cells = question6 p ≡ true
 Before Marks p cells = (question5 p cells ≡ true) × (question6 p ≡ true)
 
 -- a question of state s
 unfoldable pub passesAt : Question → Problem → List Cell → ℕ → Bool
 passesAt Ranges p cells s = rangesAt (nodeAt p s) (cellOf cells s)
-passesAt Order p cells s = successorsInOrder (states p) s (nodeAt p s)
-passesAt Bounds p cells s = valueUnder p cells s (nodeAt p s)
+passesAt Findings p cells s = successorsInOrder (states p) s (nodeAt p s)
+passesAt Values p cells s = valueUnder p cells s (nodeAt p s)
 passesAt Marks p cells s = fork (solved (cellOf cells s)) (λ _. markEarned p cells s (nodeAt p s)) (λ _. true)
 
 -- the number of the first of questions 5 to 8 whose answer is no, 0 where there is none
 unfoldable pub statesNo : Problem → List Cell → ℕ
-statesNo p cells = firstNo 5 ((λ _. question5 p cells) ∷ (λ _. question6 p) ∷ (λ _. question7 p cells) ∷ (λ _. question8 p cells) ∷ [])
+statesNo p cells = firstNo (stateQuestions p cells)
 
--- the length of a check's field, of the bytes that it begins: 0 where it does not fit
+-- the length of an action's field, of the bytes that it begins: 0 where it does not fit
 unfoldable pub fieldLength : List ℕ → ℕ
-fieldLength bs = fork (actionFits bs) (λ _. 3 + be16 bs 1) (λ _. 0)
+fieldLength bs = fork (actionFits bs) (λ _. fieldSize bs) (λ _. 0)
 
--- the table t once the offsets of the stages of s are its first entries
+-- the table t once the offsets of the states of s are its first entries
 abbrev pub indexedBefore : List ℕ → List ℕ → List ℕ
-indexedBefore s t = offsetsFrom 8 (problemOf s .nodes) ++ drop (states (problemOf s)) t
+indexedBefore s t = offsetsFrom headSize (problemOf s .nodes) ++ drop (states (problemOf s)) t
 
--- the table's content once questions 1 to 8 have been put to the sheet s, but for the clearing past the last stage
+-- the table's content once questions 1 to 8 have been put to the sheet s, but for the clearing past the last state
 unfoldable pub askedTable : List ℕ → List ℕ → List ℕ
 askedTable s t = onRefusal (sheetRefusal s (length t)) (λ _. indexedBefore s t) (refusedTable t)

@@ -1,6 +1,6 @@
--- The verdict on a sheet and document 01's numbers: 0 where no question is answered no, and else the number of the first that is.
+-- The verdict on a sheet and its number: 0 where no question is answered no, and else the number of the first that is.
 use Prim.Native.Nat.{ℕ, zero, suc}
-use mathlib.Core.Path.{_≡_, refl}
+use mathlib.Core.Path.{_≡_}
 use mathlib.Core.Bool.{true}
 use mathlib.Core.List.{List}
 use Rattle.model.specs.Questions.{answerAt, First, checkQuestions}
@@ -20,10 +20,4 @@ verdict (suc n) = Refused (suc n)
 -- What a verdict of that number says of questions 1 to 8: accepted, 0, that every answer is yes; else the number of the first that is no.
 pub data VerdictSays (s : List ℕ) (entries : ℕ) (n : ℕ) : Type 0 where
   accepted : ((i : ℕ) → answerAt (checkQuestions s entries) i ≡ true) → n ≡ 0 → VerdictSays s entries n
-  refused : (i : ℕ) → First (checkQuestions s entries) i → n ≡ suc i → VerdictSays s entries n
-
--- a verdict's number is the one that it was made of
-pub verdict-number : (n : ℕ) → verdictNumber (verdict n) ≡ n
-unfolding verdict
-verdict-number zero = refl
-verdict-number (suc n) = refl
+  refused : First (checkQuestions s entries) n → VerdictSays s entries n

@@ -1,5 +1,5 @@
-// The questions of document 01 put to a sheet's bytes, and the index table.
-mod stages; // stages.rt: question 4
+// The questions of S4 put to a sheet's bytes, and the index table.
+mod fields; // fields.rt: question 4
 pub mod states; // states.rt: questions 5 to 8
 
 ghost use mathlib.Core.Path.{_≡_};
@@ -8,20 +8,31 @@ ghost use Prim.Native.Nat.{_-_, _<_, _≤_};
 ghost use lib.ListN.{length, take, replicate};
 ghost use Rattle.model.specs.Problem.{states};
 ghost use Rattle.model.specs.Read.{problemOf, cellsOf};
-ghost use Rattle.model.specs.Questions.{maxStates, question3, sheetQuestions, firstNo, sheetRefusal};
+ghost use Rattle.model.specs.Limits.{maxStates};
+ghost use Rattle.model.specs.Questions.{question3, sheetQuestions, firstNo, sheetRefusal};
 ghost use Rattle.model.specs.Report.{checkedTable};
 ghost use Rattle.sheet.specs.Sheet.{Within};
 ghost use Rattle.questions.specs.Put.{statesNo, indexedBefore, askedTable};
 ghost use Rattle.questions.specs.Verdicts.{verdict};
+use fields::fields_in_place;
+use model::FIELDS;
+use model::FINDINGS;
+use model::HEAD;
+use model::MARKS;
 use model::MAX_BYTES;
 use model::MAX_STATES;
+use model::MIN_BYTES;
+use model::RANGES;
+use model::ROOM;
+use model::SIZE;
+use model::VALUES;
+use model::format;
+use sheet::convert::word_to_index;
 use sheet::numbers::get16;
-use sheet::numbers::place;
-use stages::stages_in_place;
 use states::Question;
 use states::all_pass;
 
-// The most stages, as the head has the number.
+// The most states, as the head has the number.
 const MOST_STATES: u32 = MAX_STATES as u32;
 
 // A sheet's answer to questions 1 to 8: accepted, or refused by the number of the first whose answer is no.
@@ -30,24 +41,24 @@ pub enum Verdict {
     Refused(u32),
 }
 
-// Question 3: does the sheet begin with a head whose kind is 0 or 1, stages 1 to 1,024, start below that number?
+// Question 3 (S4.3): is the head in place, with its kind, its number of states and its start in their ranges?
 fn head_in_place(s: &[u8]) -> bool
     requires { ⌜ 8 ≤ length (now s) ⌝ }
     ensures { λ r. ⌜ r ≡ question3 (now (s .entry)) ⌝ }
 {
-    if s[0] == 1 {
-        if get16(s, 1) == 5 {
-            if s[3] > 1 {
+    if s[0] == format::HEAD_TAG {
+        if get16(s, format::LENGTH_IN) == format::HEAD_LENGTH {
+            if s[format::KIND_IN] > format::WHOLE {
                 return false;
             }
-            let n = get16(s, 4);
+            let n = get16(s, format::STATES_IN);
             if n < 1 {
                 return false;
             }
             if n > MOST_STATES {
                 return false;
             }
-            get16(s, 6) < n
+            get16(s, format::START_IN) < n
         } else {
             false
         }
@@ -63,45 +74,45 @@ fn states_no(sheet: &[u8], table: &[u32], n: usize) -> u32
     ensures { λ r. ⌜ r ≡ statesNo (problemOf (now (sheet .entry))) (cellsOf (now (sheet .entry))) ⌝ }
 {
     if all_pass(sheet, table, n, Question::Ranges) {
-        if all_pass(sheet, table, n, Question::Order) {
-            if all_pass(sheet, table, n, Question::Bounds) {
+        if all_pass(sheet, table, n, Question::Findings) {
+            if all_pass(sheet, table, n, Question::Values) {
                 if all_pass(sheet, table, n, Question::Marks) {
                     0
                 } else {
-                    8
+                    MARKS
                 }
             } else {
-                7
+                VALUES
             }
         } else {
-            6
+            FINDINGS
         }
     } else {
-        5
+        RANGES
     }
 }
 
-// Questions 2 to 8: the number of the first whose answer is no, 0 where there is none; then the table begins with the stages' offsets.
+// Questions 2 to 8: the number of the first whose answer is no, 0 where there is none; then the table begins with the states' offsets.
 fn first_no(sheet: &[u8], table: &mut [u32]) -> u32
     requires { ⌜ maxStates ≤ length (now table) ⌝ }
-    ensures { λ r. ⌜ r ≡ firstNo 2 (sheetQuestions (now (sheet .entry))) ⌝ }
+    ensures { λ r. ⌜ r ≡ firstNo (sheetQuestions (now (sheet .entry))) ⌝ }
     ensures { λ r. ⌜ (r ≡ 0 → now (table .exit) ≡ indexedBefore (now (sheet .entry)) (now (table .entry))) ⌝ }
 {
-    if sheet.len() < 20 {
-        return 2;
+    if sheet.len() < MIN_BYTES {
+        return SIZE;
     }
     if sheet.len() > MAX_BYTES {
-        return 2;
+        return SIZE;
     }
     if head_in_place(sheet) {
-        let n = place(get16(sheet, 4));
-        if stages_in_place(sheet, table, n) {
+        let n = word_to_index(get16(sheet, format::STATES_IN));
+        if fields_in_place(sheet, table, n) {
             states_no(sheet, table, n)
         } else {
-            4
+            FIELDS
         }
     } else {
-        3
+        HEAD
     }
 }
 
@@ -117,13 +128,13 @@ pub fn clear(table: &mut [u32], from: usize)
 }
 
 // Questions 1 to 8 put to any bytes, with any table. The table's later content is unchanged at 1, all zero at 2 to 8, and when accepted it
-// begins with the stages' offsets and stays as it was past the last stage.
+// begins with the states' offsets and stays as it was past the last state.
 pub fn ask(sheet: &[u8], table: &mut [u32]) -> Verdict
     ensures answer { λ r. ⌜ r ≡ verdict (sheetRefusal (now (sheet .entry)) (length (now (table .entry)))) ⌝ }
     ensures table { λ _. ⌜ now (table .exit) ≡ askedTable (now (sheet .entry)) (now (table .entry)) ⌝ }
 {
     if table.len() < MAX_STATES {
-        return Verdict::Refused(1);
+        return Verdict::Refused(ROOM);
     }
     let n = first_no(sheet, table);
     if n == 0 {
@@ -134,14 +145,14 @@ pub fn ask(sheet: &[u8], table: &mut [u32]) -> Verdict
     }
 }
 
-// Questions 1 to 8 put to any bytes, with any table. The table's later content is unchanged at 1, all zero at 2 to 8, and the stages'
+// Questions 1 to 8 put to any bytes, with any table. The table's later content is unchanged at 1, all zero at 2 to 8, and the states'
 // offsets and then zeros when accepted.
 pub fn check(sheet: &[u8], table: &mut [u32]) -> Verdict
     ensures answer { λ r. ⌜ r ≡ verdict (sheetRefusal (now (sheet .entry)) (length (now (table .entry)))) ⌝ }
     ensures table { λ _. ⌜ now (table .exit) ≡ checkedTable (now (sheet .entry)) (now (table .entry)) ⌝ }
 {
     if table.len() < MAX_STATES {
-        return Verdict::Refused(1);
+        return Verdict::Refused(ROOM);
     }
     clear(table, 0);
     ask(sheet, table)

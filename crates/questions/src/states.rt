@@ -6,12 +6,16 @@ ghost use lib.ListN.{length, drop};
 ghost use Rattle.model.specs.Tests.{every};
 ghost use Rattle.model.specs.Problem.{nodeAt, cellOf, states};
 ghost use Rattle.model.specs.Format.{actionsOf, actionOffset};
+ghost use Rattle.model.specs.Limits.{maxActions};
 ghost use Rattle.model.specs.Read.{problemOf, cellsOf, actionFits, actionRead};
 ghost use Rattle.model.specs.Questions.{ascending, successorsInOrder, valueUnder, allSolved, markEarned, question6};
 ghost use Rattle.sheet.specs.Sheet.{Within, Decision, Priced};
 ghost use Rattle.questions.specs.Put.{rangesAt, countInRange, ChosenExists, Before, passesAt};
 use model::CEILING;
 use model::MAX_COST;
+use model::format;
+use sheet::convert::byte_to_word;
+use sheet::convert::word_to_index;
 use sheet::fields::action_cost;
 use sheet::fields::action_here;
 use sheet::fields::chosen_at;
@@ -24,18 +28,16 @@ use sheet::fields::successor;
 use sheet::fields::successor_count;
 use sheet::fields::terminal_cost;
 use sheet::fields::value_at;
-use sheet::numbers::place;
-use sheet::numbers::wide;
 use sheet::pricing::price;
 
 // Which question is put to a state.
 pub(crate) enum Question {
-    // 5: costs, values, marks and chosen checks in range
+    // 5: costs, values, marks and chosen actions in range
     Ranges,
-    // 6: findings in order
-    Order,
+    // 6: successors in order
+    Findings,
     // 7: values at most costs and prices
-    Bounds,
+    Values,
     // 8: marks earned
     Marks,
 }
@@ -43,7 +45,7 @@ pub(crate) enum Question {
 // The number of a decision's actions, 0 where the cost of one is out of range.
 fn count_in_range(sheet: &[u8], table: &[u32], state: usize) -> usize
     requires { ⌜ Decision (now sheet) (now table) state ⌝ }
-    ensures { λ r. ⌜ (r ≡ countInRange (nodeAt (problemOf (now (sheet .entry))) state)) × (r ≤ 16) ⌝ }
+    ensures { λ r. ⌜ (r ≡ countInRange (nodeAt (problemOf (now (sheet .entry))) state)) × (r ≤ maxActions) ⌝ }
 {
     let mut at: usize = first_action(sheet, table, state);
     let mut n: usize = 0;
@@ -70,7 +72,7 @@ fn in_range(sheet: &[u8], table: &[u32], state: usize) -> bool
         return false;
     }
     let mark = mark_at(sheet, table, state);
-    if mark > 1 {
+    if mark > format::SOLVED {
         return false;
     }
     if is_terminal(sheet, table, state) {
@@ -80,8 +82,12 @@ fn in_range(sheet: &[u8], table: &[u32], state: usize) -> bool
     if n == 0 {
         return false;
     }
-    let chosen = place(wide(chosen_at(sheet, table, state)));
-    if mark == 1 { chosen < n } else { chosen == 0 }
+    let chosen = word_to_index(byte_to_word(chosen_at(sheet, table, state)));
+    if mark == format::SOLVED {
+        chosen < n
+    } else {
+        chosen == 0
+    }
 }
 
 // Are the successors of the action at `at` strictly ascending, above `low` and below `n`? Where they ascend, the last of them alone is held
@@ -100,7 +106,7 @@ fn ascending_at(sheet: &[u8], at: usize, low: usize, n: usize) -> bool
         }
         last = t;
         j += 1;
-        if end <= at + 7 + 2 * j {
+        if end <= at + format::SUCCESSORS_IN + format::SUCCESSOR_BYTES * j {
             return last < n;
         }
     }
@@ -115,11 +121,9 @@ fn in_order(sheet: &[u8], table: &[u32], state: usize, n: usize) -> bool
         return true;
     }
     let mut at: usize = first_action(sheet, table, state);
-    let mut k: usize = 0;
     loop {
         if ascending_at(sheet, at, state, n) {
             at = next_action(sheet, at);
-            k += 1;
         } else {
             return false;
         }
@@ -135,21 +139,20 @@ fn in_order(sheet: &[u8], table: &[u32], state: usize, n: usize) -> bool
 fn value_under(sheet: &[u8], table: &[u32], state: usize) -> bool
     requires { ⌜ Within (now sheet) (now table) state ⌝ }
     requires { ⌜ question6 (problemOf (now sheet)) ≡ true ⌝ }
-    ensures { λ r. ⌜ r ≡ valueUnder (problemOf (now (sheet .entry))) (cellsOf (now (sheet .entry))) state (nodeAt (problemOf (now (sheet .entry))) state) ⌝ }
+    ensures { λ r. ⌜ r ≡ valueUnder (problemOf (now (sheet .entry))) (cellsOf (now (sheet .entry))) state
+        (nodeAt (problemOf (now (sheet .entry))) state) ⌝ }
 {
     let value = value_at(sheet, table, state);
     if is_terminal(sheet, table, state) {
         return value <= terminal_cost(sheet, table, state);
     }
     let mut at: usize = first_action(sheet, table, state);
-    let mut k: usize = 0;
     while action_here(sheet, at) {
         let x = price(sheet, table, at);
         if x.price < value {
             return false;
         }
         at = next_action(sheet, at);
-        k += 1;
     }
     true
 }
@@ -192,13 +195,14 @@ fn mark_earned(sheet: &[u8], table: &[u32], state: usize) -> bool
     requires { ⌜ Within (now sheet) (now table) state ⌝ }
     requires { ⌜ question6 (problemOf (now sheet)) ≡ true ⌝ }
     requires { ⌜ ChosenExists (problemOf (now sheet)) (cellsOf (now sheet)) state ⌝ }
-    ensures { λ r. ⌜ r ≡ markEarned (problemOf (now (sheet .entry))) (cellsOf (now (sheet .entry))) state (nodeAt (problemOf (now (sheet .entry))) state) ⌝ }
+    ensures { λ r. ⌜ r ≡ markEarned (problemOf (now (sheet .entry))) (cellsOf (now (sheet .entry))) state
+        (nodeAt (problemOf (now (sheet .entry))) state) ⌝ }
 {
     let value = value_at(sheet, table, state);
     if is_terminal(sheet, table, state) {
         return value == terminal_cost(sheet, table, state);
     }
-    let chosen = place(wide(chosen_at(sheet, table, state)));
+    let chosen = word_to_index(byte_to_word(chosen_at(sheet, table, state)));
     let at = action_at(sheet, table, state, chosen);
     let x = price(sheet, table, at);
     if value == x.price {
@@ -217,8 +221,8 @@ fn passes(sheet: &[u8], table: &[u32], n: usize, state: usize, question: Questio
 {
     match question {
         Question::Ranges => in_range(sheet, table, state),
-        Question::Order => in_order(sheet, table, state, n),
-        Question::Bounds => value_under(sheet, table, state),
+        Question::Findings => in_order(sheet, table, state, n),
+        Question::Values => value_under(sheet, table, state),
         Question::Marks => {
             if solved_at(sheet, table, state) {
                 mark_earned(sheet, table, state)

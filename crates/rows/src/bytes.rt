@@ -1,4 +1,5 @@
-// Bytes and blocks of bytes written into a buffer. Each function answers the place after what it wrote; a byte that does not fit is left out.
+// Bytes and blocks of bytes written into a buffer. Each function answers the place after what it wrote; a byte that does not fit is left
+// out.
 
 // A byte at `at`.
 pub fn put(sheet: &mut [u8], at: usize, b: u8) -> usize {

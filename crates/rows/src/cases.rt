@@ -1,4 +1,5 @@
-// A case by itself, on buffers of its own: a sheet, and in it the number of `size` bytes at `at` changed to `x`. Nothing is changed where `size` is 0.
+// A case by itself, on buffers of its own: a sheet, and in it the number of `size` bytes at `at` changed to `x`. Nothing is changed where
+// `size` is 0.
 use super::bytes::copy;
 use super::fields::ending;
 use super::fields::head;

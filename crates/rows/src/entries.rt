@@ -81,7 +81,7 @@ fn both(size: usize) {
     let n = lay(&mut sheet, &A, 0, 0, 0);
     if size <= 1100 {
         ask_line(b"A", &sheet, n, &mut asked[..size], 5);
-        work_line(b"A-allowance-0", &mut sheet, n, &mut worked[..size]);
+        work_line(b"A-budget-0", &mut sheet, n, &mut worked[..size]);
     }
 }
 

@@ -1,4 +1,5 @@
-// Numbers and fields of a sheet written into a buffer. Each function answers the place after what it wrote; a byte that does not fit is left out.
+// Numbers and fields of a sheet written into a buffer. Each function answers the place after what it wrote; a byte that does not fit is
+// left out.
 use super::bytes::put;
 
 // The byte of a number that has so many bytes after it.

@@ -30,7 +30,8 @@ fn build(
     repeat(sheet, at, &ENDING, endings)
 }
 
-// A line of `check`, whose label has `-check` at its end, and one of `solve`, on a junction with a block so many times, and so many endings.
+// A line of `check`, whose label has `-check` at its end, and one of `solve`, on a junction with a block so many times, and so many
+// endings.
 pub fn both(label: &[u8], stages: u32, block: &[u8], times: u32, endings: u32) {
     let mut sheet = [0u8; 300];
     let mut table = [0u32; 1024];
@@ -40,7 +41,8 @@ pub fn both(label: &[u8], stages: u32, block: &[u8], times: u32, endings: u32) {
     work_line(label, &mut sheet, n, &mut table, LARGEST);
 }
 
-// A line of `check` on `n` bytes that begin with a block so many times and so many endings, with the table's entries from `from` to just below `end`.
+// A line of `check` on `n` bytes that begin with a block so many times and so many endings, with the table's entries from `from` to just
+// below `end`.
 pub fn ask_large(
     label: &[u8],
     n: usize,

@@ -51,7 +51,8 @@ fn costs() {
     ask_ending(b"ending-cost-1000001", 1000001, 0, 0);
 }
 
-// Question 5: values and marks. A value that is in range but above the ending's cost, or the price of the junction's check, is refused by question 7.
+// Question 5: values and marks. A value that is in range but above the ending's cost, or the price of the junction's check, is refused by
+// question 7.
 fn values() {
     ask_ending(b"ending-value-1000000000", 1000000, 1000000000, 0);
     ask_ending(b"ending-value-1000000001", 1000000, 1000000001, 0);
@@ -73,8 +74,8 @@ fn ask_worked_a(label: &[u8], at: usize, size: usize, x: u32) {
     ask_line(label, &sheet, 81, &mut table);
 }
 
-// Questions 5 and 8: sheet A worked, whose start has chosen the last of its two checks; that sheet with a chosen check one past the last, and with the
-// other check, whose price is 600.
+// Questions 5 and 8: sheet A worked, whose start has chosen the last of its two checks; that sheet with a chosen check one past the last,
+// and with the other check, whose price is 600.
 fn choices() {
     work(b"A-to-settle", &A, 0, 0, 0, LARGEST);
     ask_worked_a(b"A-settled-chosen-1", 0, 0, 0);
@@ -82,7 +83,8 @@ fn choices() {
     ask_worked_a(b"A-settled-chosen-0", 16, 1, 0);
 }
 
-// Question 6: findings out of order, equal, at the number of stages, in order, and at their own junction. Both of B's are one number of four bytes.
+// Question 6: findings out of order, equal, at the number of stages, in order, and at their own junction. Both of B's are one number of
+// four bytes.
 fn order() {
     ask_b(b"B-findings-2-1", 24, 4, 0x00020001);
     ask_b(b"B-findings-1-1", 24, 4, 0x00010001);
@@ -91,8 +93,8 @@ fn order() {
     ask(b"A-junction-1-finding-1", &A, 53, 2, 1);
 }
 
-// Question 7: an ending's value at its cost and above. Questions 5 and 8: settled junctions, one of which chose a check past its last, one with an open
-// finding, and one with a value one less than its check's price.
+// Question 7: an ending's value at its cost and above. Questions 5 and 8: settled junctions, one of which chose a check past its last, one
+// with an open finding, and one with a value one less than its check's price.
 fn settled() {
     ask_ending(b"ending-70-value-70", 70, 70, 0);
     ask_ending(b"ending-70-value-71", 70, 71, 0);

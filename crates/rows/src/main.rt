@@ -1,28 +1,33 @@
-// Runs document 01's rows, and each of its questions on both sides of its limit, through the compiled `solve` and `check`, and prints the answers. A
-// line is a label and then what happened; `stdout` holds them to what document 01 says. Its expectations come from document 01 and were worked out by
-// hand, not taken from a run. Where `solve` refuses a sheet and changes a byte of it, the line has the word `changed`, which `stdout` has nowhere.
+// Runs the worked examples (S11), and each question (S4) on both sides of its limit, through the compiled `solve` and `check`, and prints
+// the answers. A line is a label and then what happened; `stdout` holds them to what is expected. Its expectations come from the
+// specification and were worked out by hand, not taken from a run. Where `solve` refuses a sheet and changes a byte of it, the line has
+// the word `changed`, which `stdout` has nowhere.
 //
-// Document 01's table gives the lines up to `findings-17`, but for two. Its last row says of 16 checks, and of 16 findings, only that they are accepted;
-// that working them gives `settled 1 2 1` follows from "How a sheet is worked": every check costs 1 and every ending 0, so pass 1 finds each price, 1,
-// above the start's value, 0, raises that to 1 and fails, and pass 2 succeeds with no raise.
+// The table of S11 gives the lines up to `findings-17`, but for two. S11.15 says of 16 checks, and of 16 findings, only that they are
+// accepted; that working them gives `settled 1 2 1` follows from S6: every check costs 1 and every ending 0, so pass 1 finds each price,
+// 1, above the start's value, 0, raises that to 1 and fails, and pass 2 succeeds with no raise.
 //
-// The other lines are worked out from "Questions put to a sheet": each names the question that it is at the limit of. These took a sum besides.
-// - `bytes-60000`: 8 + 716 * 83 + 47 * 12 bytes, so the last stage, 762, is at 60,000 - 12 = 59,988, and entry 763 is 0. Worked, it is as above.
-// - `stages-1024`: 8 + 1,023 * 12 = 12,284 is the last stage's offset, so it has 12,296 bytes. 1,025 stages have 12,308 bytes, so question 2 passes and 3
-//   refuses.
-// - `ending-value-1000000000`, `junction-value-1000000000`: in the range of question 5, and above the cost 1,000,000 and the price 100: question 7.
-// - `A-settled-chosen-0`: document 01's output for A says that the start chose check 1 at 500. Check 0 then costs 200 + 400, since pass 2 raised stage 1
-//   to 400, and 600 is not 500: question 8. Check 2 is out of range: question 5.
+// The other lines are worked out from S4: each names the question that it is at the limit of. These took a sum
+// besides.
+// - `bytes-60000`: 8 + 716 * 83 + 47 * 12 bytes, so the last stage, 762, is at 60,000 - 12 = 59,988, and entry 763 is 0. Worked, it is as
+//   above.
+// - `stages-1024`: 8 + 1,023 * 12 = 12,284 is the last stage's offset, so it has 12,296 bytes. 1,025 stages have 12,308 bytes, so question
+//   2 passes and 3 refuses.
+// - `ending-value-1000000000`, `junction-value-1000000000`: in the range of question 5, and above the cost 1,000,000 and the price 100:
+//   question 7.
+// - `A-settled-chosen-0`: the output for A (S11.16) says that the start chose check 1 at 500. Check 0 then costs 200 + 400, since pass 2
+//   raised stage 1 to 400, and 600 is not 500: question 8. Check 2 is out of range: question 5.
 // - `B-settled` has the least costs 150, 30 and 50 of the row B worst. With a finding open again, or at 149, question 8 refuses it.
-// - `-table` lines: the table's entries were 7, 8, 9 and so on. "Number 1 also leaves the index table unchanged; 2 to 9 leave every entry of it 0", past the
-//   1,024th too; accepted, the entries are A's offsets 8, 37, 57, 69, and "every entry past the last stage is 0": 1,024 - 4 and 1,100 - 4 of them.
+// - `-table` lines: the table's entries were 7, 8, 9 and so on. Refusal 1 leaves them (S5.4), 2 to 9 make all of them 0 (S5.5),
+//   past the 1,024th too; accepted, the entries are A's offsets 8, 37, 57, 69, and every entry past the last stage is 0 (S3.5): 1,024 - 4
+//   and 1,100 - 4 of them.
 mod bytes; // bytes.rt: bytes and blocks of bytes in a buffer
 mod fields; // fields.rt: numbers and fields in a buffer
 mod sheets; // sheets.rt: the sheets of the cases, and blocks of larger ones
 mod lines; // lines.rt: a case's line
 mod cases; // cases.rt: a case on a small sheet
 mod large; // large.rt: the larger sheets and their cases
-mod table; // table.rt: the rows of document 01's table
+mod table; // table.rt: the rows of S11
 mod limits; // limits.rt: the questions' limits
 mod entries; // entries.rt: the index table after a call
 

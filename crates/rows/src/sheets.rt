@@ -1,7 +1,9 @@
-// The sheets of the cases, and blocks of fields that larger ones are built of: a line for each field, or for a long check one more for its findings.
+// The sheets of the cases, and blocks of fields that larger ones are built of: a line for each field, or for a long check one or two more
+// for its findings.
 
-// Document 01's A. Head: worst, 4 stages, start 0; junction 0; check 200, findings 1, 3; check 500, finding 3; junction 1; check 400, findings 2, 3;
-// endings 100 and 0. The offsets are 8, 37, 57, 69. Junction 0's chosen check is at 16, and the first finding of junction 1 at 53.
+// Sheet A of S11. Head: worst, 4 stages, start 0; junction 0; check 200, findings 1, 3; check 500, finding 3; junction 1; check 400,
+// findings 2, 3; endings 100 and 0. The offsets are 8, 37, 57, 69. Junction 0's chosen check is at 16, and the first finding of junction 1
+// at 53.
 pub const A: [u8; 81] = *b"\
     \x01\x00\x05\x00\x00\x04\x00\x00\
     \x03\x00\x06\x00\x00\x00\x00\x00\x00\
@@ -12,9 +14,9 @@ pub const A: [u8; 81] = *b"\
     \x02\x00\x09\x00\x00\x00\x64\x00\x00\x00\x00\x00\
     \x02\x00\x09\x00\x00\x00\x00\x00\x00\x00\x00\x00";
 
-// Document 01's B. Head: worst, 3 stages, start 0; junction; check 100, findings 1, 2; endings 30 and 50. The offsets are 8, 28, 40. The head's kind is
-// at 3, its stages at 4 and its start at 6; the junction's value at 11, its mark at 15 and its chosen check at 16; the check's cost at 20 and its findings
-// at 24; the endings' marks at 39 and 51.
+// Sheet B of S11. Head: worst, 3 stages, start 0; junction; check 100, findings 1, 2; endings 30 and 50. The offsets are 8, 28, 40. The
+// head's kind is at 3, its stages at 4 and its start at 6; the junction's value at 11, its mark at 15 and its chosen check at 16; the
+// check's cost at 20 and its findings at 24; the endings' marks at 39 and 51.
 pub const B: [u8; 52] = *b"\
     \x01\x00\x05\x00\x00\x03\x00\x00\
     \x03\x00\x06\x00\x00\x00\x00\x00\x00\
@@ -67,7 +69,8 @@ pub const FINDINGS_16: [u8; 39] = *b"\
 // Block: a check of cost 1 with the findings 1 to 17.
 pub const FINDINGS_17: [u8; 41] = *b"\
     \x04\x00\x26\x00\x00\x00\x01\
-    \x00\x01\x00\x02\x00\x03\x00\x04\x00\x05\x00\x06\x00\x07\x00\x08\x00\x09\x00\x0a\x00\x0b\x00\x0c\x00\x0d\x00\x0e\x00\x0f\x00\x10\x00\x11";
+    \x00\x01\x00\x02\x00\x03\x00\x04\x00\x05\x00\x06\x00\x07\x00\x08\x00\x09\x00\x0a\x00\x0b\x00\x0c\x00\x0d\x00\x0e\x00\x0f\x00\x10\
+    \x00\x11";
 
 // Block: a junction of two checks of cost 1, each with fifteen findings, the stages 716 to 730: 9 + 2 * 37 = 83 bytes.
 pub const FAN: [u8; 83] = *b"\

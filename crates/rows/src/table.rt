@@ -1,4 +1,4 @@
-// The rows of document 01's table, in its order.
+// The rows of S11, in its order.
 use super::cases::ask_b;
 use super::cases::lay;
 use super::cases::work;
@@ -19,14 +19,14 @@ fn carried_on() {
     let mut sheet = [0u8; 81];
     let mut table = [0u32; 1024];
     let n = lay(&mut sheet, &A, 0, 0, 0);
-    work_line(b"A-allowance-2", &mut sheet, n, &mut table, 2);
+    work_line(b"A-budget-2", &mut sheet, n, &mut table, 2);
     work_line(b"A-carried-on", &mut sheet, n, &mut table, LARGEST);
 }
 
 // One ending, of cost 0 and of cost 70; sheet A; sheet B of both kinds, and with a value at its check's price and above.
 fn first_rows() {
     work(b"ending-0", &ONE, 0, 0, 0, LARGEST);
-    work(b"ending-70-allowance-1", &ONE, 11, 4, 70, 1);
+    work(b"ending-70-budget-1", &ONE, 11, 4, 70, 1);
     work(b"A", &A, 0, 0, 0, LARGEST);
     carried_on();
     work_b(b"B-worst", 0, 0, 0);
@@ -41,11 +41,11 @@ fn refusals() {
     work_b(b"stages-0", 4, 2, 0);
     work_b(b"B-finding-0", 24, 2, 0);
     work_b(b"B-ending-settled-at-0", 39, 1, 1);
-    work(b"A-allowance-0", &A, 0, 0, 0, 0);
+    work(b"A-budget-0", &A, 0, 0, 0, 0);
 }
 
-// The chain; a check of cost 0, which question 5 would refuse, in a sheet whose last field is cut, which question 4 refuses before it; sixteen and
-// seventeen checks and findings.
+// The chain; a check of cost 0, which question 5 would refuse, in a sheet whose last field is cut, which question 4 refuses before it;
+// sixteen and seventeen checks and findings.
 fn last_rows() {
     chains();
     work(b"cost-0-and-cut", &B[..51], 20, 4, 0, LARGEST);

@@ -8,6 +8,7 @@ use lib.ListN.{length, getD, drop}
 use Rattle.model.specs.Problem.{Problem, Cell, states, nodeAt, actionAt}
 use Rattle.model.specs.Format.{be16, decisionTag, tagOf, actionOffset}
 use Rattle.model.specs.Read.{actionFits, actionRead}
+use Rattle.model.specs.Limits.{maxActions}
 use Rattle.layout.proofs.Actions.{successor-of}
 use Rattle.layout.proofs.Shapes.{member}
 use Rattle.sheet.specs.Sheet.{Sheet, Priced}
@@ -40,7 +41,7 @@ module _ {p : Problem} {i n o : ℕ} (u : Turn p i n o) where
     pub turn-next : (r : ℕ) → r ≡ o + 7 + 2 * length (actionRead (drop o s) .successors) → r ≡ actionOffset p i (n + 1)
     turn-next = action-after h i (u .below) (u .tag) n o (u .place) (u .exists)
 
-    pub turn-few : n < 16
+    pub turn-few : n < maxActions
     turn-few = omega (arith, few-actions h i (u .below) (u .tag), u .exists)
 
     -- its successors end where the next action stands

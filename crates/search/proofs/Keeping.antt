@@ -6,7 +6,8 @@ use mathlib.Core.List.{List}
 use native.Mathlib.Omega.{arith}
 use lib.ListN.{length}
 use Rattle.model.specs.Problem.{Action, actionAt}
-use Rattle.model.specs.QValue.{ceiling, least}
+use Rattle.model.specs.Limits.{ceiling}
+use Rattle.model.specs.QValue.{least}
 use Rattle.theory.proofs.Basics.{same-or-not}
 use Rattle.theory.proofs.QValueLaws.{least-below, least-above}
 use Rattle.search.specs.declared.kept.Kept.{Kept}

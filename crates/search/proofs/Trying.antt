@@ -8,7 +8,7 @@ use lib.ListN.{length, getD, drop}
 use Rattle.model.specs.Problem.{Action, Problem, Cell, states, actionAt, valueOf, setSolved}
 use Rattle.model.specs.Read.{problemOf, cellsOf, actionRead}
 use Rattle.model.specs.QValue.{q}
-use Rattle.model.specs.Ldfs.{Search, Visit, success, failure, valueAt, priceAt, marked}
+use Rattle.model.specs.Ldfs.{Search, Visit, success, failure, valueAt, priceAt}
 use Rattle.sheet.specs.Sheet.{Sheet}
 use Rattle.sheet.proofs.Laws.{problem-is, actionsAt}
 use Rattle.theory.specs.Consistent.{WellFormed, Consistent}

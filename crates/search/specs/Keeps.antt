@@ -2,7 +2,7 @@
 use Prim.Native.Nat.{ℕ, _<_, _≤_, min}
 use mathlib.Core.List.{List}
 use Rattle.model.specs.Problem.{Action, actionAt}
-use Rattle.model.specs.QValue.{ceiling}
+use Rattle.model.specs.Limits.{ceiling}
 use Rattle.search.specs.declared.kept.Kept.{Kept}
 
 -- Of the first n actions, whose prices are f: none is below both of what is kept, and what is fresh is no less than the least of them. So

@@ -67,12 +67,10 @@ fn least_price(sheet: &[u8], table: &[u32], state: usize) -> u32
         (actionsOf (nodeAt (problemOf (now (sheet .entry))) state)) ⌝ }
 {
     let mut at: usize = first_action(sheet, table, state);
-    let mut i: usize = 0;
     let mut m: u32 = CEILING;
     loop {
         let a = at;
         at = next_action(sheet, a);
-        i += 1;
         let x = price(sheet, table, a);
         m = lesser(m, x.price);
         if action_here(sheet, at) {

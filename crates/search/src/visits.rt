@@ -19,6 +19,8 @@ use super::kept::abandoned;
 use super::kept::least_kept;
 use super::kept::none_kept;
 use super::kept::skipped;
+use model::format;
+use sheet::convert::word_to_index;
 use sheet::fields::action_here;
 use sheet::fields::first_action;
 use sheet::fields::is_terminal;
@@ -30,11 +32,10 @@ use sheet::fields::terminal_cost;
 use sheet::fields::value_at;
 use sheet::fields::value_place;
 use sheet::numbers::get16;
-use sheet::numbers::place;
 use sheet::numbers::set32;
 use sheet::pricing::price;
 
-// How a visit ends: document 002's true and false, or for want of budget.
+// How a visit ends: it succeeds, it fails, or work stops for want of budget (S6.9).
 pub enum Way {
     Success,
     Failure,
@@ -169,10 +170,10 @@ fn try_action(
 {
     let end = next_action(sheet, a);
     let mut spent = raises;
-    let mut o: usize = a + 7;
+    let mut o: usize = a + format::SUCCESSORS_IN;
     while o < end {
-        let t = place(get16(sheet, o));
-        o += 2;
+        let t = word_to_index(get16(sheet, o));
+        o += format::SUCCESSOR_BYTES;
         let before = spent;
         let v = visit(sheet, table, t, before, budget);
         spent = v.raises;
@@ -254,7 +255,7 @@ fn visit_decision(
     fail(sheet, table, d, kept, spent, budget)
 }
 
-// A visit to a state: a settled one succeeds.
+// A visit to a state: a solved one succeeds (S6.2).
 pub(crate) fn visit(
     sheet: &mut [u8],
     table: &[u32],

@@ -115,7 +115,8 @@ module _ (f : Action → ℕ) (acts : List Action) where
   least-end x = rw (drop-length acts)
 
 -- a loop may begin with anything that no price is above
-pub least-begin : (top : ℕ) (f : Action → ℕ) (acts : List Action) → ((a : Action) → f a ≤ top) → 0 < length acts → least f acts ≡ leastFrom top f acts
+pub least-begin : (top : ℕ) (f : Action → ℕ) (acts : List Action) → ((a : Action) → f a ≤ top) → 0 < length acts →
+    least f acts ≡ leastFrom top f acts
 unfolding least leastFrom
 least-begin top f [] h lt = absurd (omega arith)
 least-begin top f (a ∷ more) h lt = let e : min top (f a) ≡ f a = omega (arith, h a) in rw e

@@ -9,14 +9,18 @@ use borrow.Author.Tests.{eqb-true, eqb-false}
 use lib.Dec.{eqb}
 use lib.ListN.{length, getD, set, drop, length-set, length-append, List·getD-append}
 use lib.Seq.{getD-set-same, getD-set-other, set-set}
-use Rattle.model.specs.Problem.{Action, Node, terminal, decision, Problem, Cell, cell, states, nodeAt, actionAt, cellOf, setValue, setSolved}
-use Rattle.model.specs.Format.{be32, put32, terminalTag, decisionTag, actionTag, write, nodeSize, actionPlace, tagOf, valueIn, valueOffset, actionsOf, actionOffset, offsetsFrom}
+use Rattle.model.specs.Problem.{Action, Node, terminal, decision, Problem, Cell, cell, states, nodeAt, actionAt, cellOf}
+use Rattle.model.specs.Problem.{setValue, setSolved}
+use Rattle.model.specs.Format.{be32, put32, terminalTag, decisionTag, actionTag, write, nodeSize, actionPlace, tagOf}
+use Rattle.model.specs.Format.{valueIn, valueOffset, actionsOf, actionOffset, offsetsFrom}
 use Rattle.model.specs.Read.{actionFits, actionRead, problemOf, cellsOf}
-use Rattle.layout.specs.Shape.{Few, NodeShaped, ChosenShaped, Shaped, setMark, setChosen}
+use Rattle.model.specs.Limits.{maxSuccessors}
+use Rattle.layout.specs.Shape.{FewActions, FewSuccessors, NodeShaped, ChosenShaped, Shaped, setMark, setChosen}
 use Rattle.layout.proofs.Index.{offsets-count, index-is}
 use Rattle.layout.proofs.Places.{write-length}
 use Rattle.layout.proofs.Shapes.{node-shaped, action-shaped}
-use Rattle.layout.proofs.Fields.{state-room, value-room, tag-at, value-at, mark-at, value-stored, mark-stored, cost-at, chosen-at, chosen-stored, action-tag-at, action-next, after-last}
+use Rattle.layout.proofs.Fields.{state-room, value-room, tag-at, value-at, mark-at, value-stored, mark-stored, cost-at}
+use Rattle.layout.proofs.Fields.{chosen-at, chosen-stored, action-tag-at, action-next, after-last}
 use Rattle.layout.proofs.Back.{problem-back, cells-back}
 use Rattle.layout.proofs.Actions.{content-of, count-of, written-action, written-fits}
 use Rattle.sheet.specs.Sheet.{Sheet, Within, Terminal, Decision, Priced, costOf}
@@ -59,7 +63,8 @@ chosen-kept (terminal cost) c c′ e h = e ∙ h
 chosen-kept (decision acts) c c′ e h = tt
 
 -- one cell changed
-pub shaped-set : {p : Problem} {cells : List Cell} → Shaped p cells → (i : ℕ) (c : Cell) → i < states p → ChosenShaped (nodeAt p i) c → Shaped p (set cells i c)
+pub shaped-set : {p : Problem} {cells : List Cell} → Shaped p cells → (i : ℕ) (c : Cell) → i < states p → ChosenShaped (nodeAt p i) c →
+    Shaped p (set cells i c)
 shaped-set {p} {cells} h i c lt ch = record {
   some = h .some;
   most = h .most;
@@ -75,14 +80,15 @@ shaped-set {p} {cells} h i c lt ch = record {
 
 -- an action's field that fits, with its successors, is inside
 pub action-inside : (s : List ℕ) (o : ℕ) → actionFits (drop o s) ≡ true →
-    (length (actionRead (drop o s) .successors) ≤ 16) × (o + 7 + 2 * length (actionRead (drop o s) .successors) ≤ length s)
+    (length (actionRead (drop o s) .successors) ≤ maxSuccessors) × (o + 7 + 2 * length (actionRead (drop o s) .successors) ≤ length s)
 action-inside s o fits = omega (arith, content-of s o fits, count-of s o fits)
 
 pub some-successor : (s : List ℕ) (o : ℕ) → actionFits (drop o s) ≡ true → 0 < length (actionRead (drop o s) .successors)
 some-successor s o fits = omega (arith, content-of s o fits, count-of s o fits)
 
 -- a table that begins with the offsets makes a sheet of what is written
-pub indexed : {s t : List ℕ} {p : Problem} {cells : List Cell} (rest : List ℕ) → s ≡ write p cells → Shaped p cells → t ≡ offsetsFrom 8 (p .nodes) ++ rest → Sheet s t p cells
+pub indexed : {s t : List ℕ} {p : Problem} {cells : List Cell} (rest : List ℕ) → s ≡ write p cells → Shaped p cells →
+    t ≡ offsetsFrom 8 (p .nodes) ++ rest → Sheet s t p cells
 indexed {p} rest is shaped e = record {
   is = is;
   shaped = shaped;
@@ -117,7 +123,8 @@ module _ {s t : List ℕ} {p : Problem} {cells : List Cell} (h : Sheet s t p cel
   pub decision-tag : {i : ℕ} → Decision s t i → tagOf (nodeAt p i) ≡ decisionTag
   decision-tag w = rw problem-is at (w .tag)
 
-pub sheet-length : {s s′ t t′ : List ℕ} {p : Problem} {cells cells′ : List Cell} → Sheet s t p cells → Sheet s′ t′ p cells′ → length s′ ≡ length s
+pub sheet-length : {s s′ t t′ : List ℕ} {p : Problem} {cells cells′ : List Cell} → Sheet s t p cells → Sheet s′ t′ p cells′ →
+    length s′ ≡ length s
 sheet-length {p} {cells} {cells′} h h′ = rw (h .is, h′ .is) (write-length p cells′ cells)
 
 -- State i of a sheet: its fields, and stores in its cell.
@@ -201,7 +208,8 @@ module _ {s t : List ℕ} {p : Problem} {cells : List Cell} (h : Sheet s t p cel
 pub head-room : {s t : List ℕ} {p : Problem} {cells : List Cell} → Sheet s t p cells → 3 < length s
 head-room h = omega (arith, nine-room h 0 (h .shaped .some))
 
-pub with-decision-solved : {s t : List ℕ} {p : Problem} {cells : List Cell} → Sheet s t p cells → (i : ℕ) → i < states p → tagOf (nodeAt p i) ≡ decisionTag → (k : ℕ) →
+pub with-decision-solved : {s t : List ℕ} {p : Problem} {cells : List Cell} → Sheet s t p cells → (i : ℕ) → i < states p →
+    tagOf (nodeAt p i) ≡ decisionTag → (k : ℕ) →
     Sheet (set (set s (valueOffset p i + 4) 1) (valueOffset p i + 5) k) t p (setSolved cells i k)
 with-decision-solved {cells} h i lt tag k =
     rw (set-set, getD-set-same cells i _ _ (has-cell h i lt)) at (with-chosen (with-mark h i lt 1) i lt tag k)
@@ -210,29 +218,32 @@ with-decision-solved {cells} h i lt tag k =
 abbrev pub actionsAt : Problem → ℕ → List Action
 actionsAt p i = actionsOf (nodeAt p i)
 
-module _ {s t : List ℕ} {p : Problem} {cells : List Cell} (h : Sheet s t p cells) (i : ℕ) (lt : i < states p) (tag : tagOf (nodeAt p i) ≡ decisionTag) where
+module _ {s t : List ℕ} {p : Problem} {cells : List Cell} (h : Sheet s t p cells) (i : ℕ) (lt : i < states p)
+    (tag : tagOf (nodeAt p i) ≡ decisionTag) where
   node-is : nodeAt p i ≡ decision (actionsAt p i)
   node-is = is-decision (nodeAt p i) tag
 
   shape : NodeShaped (decision (actionsAt p i))
   shape = rw node-is at (node-shaped (p .nodes) (h .shaped .nodes) i)
 
-  pub few-actions : Few (actionsAt p i)
+  pub few-actions : FewActions (actionsAt p i)
   few-actions = shape .0
 
-  pub few-successors : (k : ℕ) → k < length (actionsAt p i) → Few (actionAt (actionsAt p i) k .successors)
+  pub few-successors : (k : ℕ) → k < length (actionsAt p i) → FewSuccessors (actionAt (actionsAt p i) k .successors)
   few-successors k lk = action-shaped (actionsAt p i) k lk (shape .1)
 
   module _ (k o : ℕ) (here : o ≡ actionOffset p i k) where
     -- whether there is one
     pub action-stands : k ≤ length (actionsAt p i) → eqb (getD s o 0) actionTag ≡ true → k < length (actionsAt p i)
     action-stands le e =
-        let ne : k ≡ length (actionsAt p i) → ⊥ = λ w. after-last p cells i lt (actionsAt p i) node-is (rw (h .is, here, w) at (eqb-true (getD s o 0) actionTag e)) in
+        let tagged = eqb-true (getD s o 0) actionTag e in
+        let ne : k ≡ length (actionsAt p i) → ⊥ = λ w. after-last p cells i lt (actionsAt p i) node-is (rw (h .is, here, w) at tagged) in
         omega arith
 
     pub action-ends : eqb (getD s o 0) actionTag ≡ false → length (actionsAt p i) ≤ k
     action-ends e =
-        let no : k < length (actionsAt p i) → ⊥ = λ lk. eqb-false (getD s o 0) actionTag e (rw (h .is, here) (action-tag-at p cells i lt (actionsAt p i) node-is k lk)) in
+        let tag-of = action-tag-at p cells i lt (actionsAt p i) node-is k in
+        let no : k < length (actionsAt p i) → ⊥ = λ lk. eqb-false (getD s o 0) actionTag e (rw (h .is, here) (tag-of lk)) in
         omega arith
 
     -- what it says
@@ -243,12 +254,14 @@ module _ {s t : List ℕ} {p : Problem} {cells : List Cell} (h : Sheet s t p cel
       pub action-in-place : actionFits (drop o s) ≡ true
       action-in-place = rw (h .is, here) (written-fits p cells i lt (actionsAt p i) node-is k lk (few-successors k lk))
 
-      pub action-priced : ((j : ℕ) → j < length (actionAt (actionsAt p i) k .successors) → getD (actionAt (actionsAt p i) k .successors) j 0 < states p) → Priced s t o
+      pub action-priced : (let ts = actionAt (actionsAt p i) k .successors in (j : ℕ) → j < length ts → getD ts j 0 < states p) →
+          Priced s t o
       action-priced below = record { sheet = own h; fits = action-in-place; below = rw (action-is, problem-is h) below }
 
       -- what follows it
       pub action-after : (r : ℕ) → r ≡ o + 7 + 2 * length (actionRead (drop o s) .successors) → r ≡ actionOffset p i (k + 1)
       action-after r e =
           let n = action-next p cells i lt (actionsAt p i) node-is k lk in
-          let m : length (actionRead (drop o s) .successors) ≡ length (actionAt (actionsAt p i) k .successors) = ap (λ (a : Action). length (a .successors)) action-is in
+          let m : length (actionRead (drop o s) .successors) ≡ length (actionAt (actionsAt p i) k .successors) =
+          ap (λ (a : Action). length (a .successors)) action-is in
           rw add-one (omega arith)

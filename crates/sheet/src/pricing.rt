@@ -1,18 +1,20 @@
-// The price of a check, for both kinds. Sums are kept in 64 bits before they are cut.
+// The price of an action (S2.8), for both kinds. Sums are kept in 64 bits before they are cut.
 ghost use mathlib.Core.Path.{_≡_};
 ghost use Prim.Native.Nat.{_+_, _<_, _≤_, max};
 ghost use lib.ListN.{length, drop};
 ghost use Rattle.model.specs.Problem.{valueOf};
+ghost use Rattle.model.specs.Format.{kindIn};
 ghost use Rattle.model.specs.Read.{problemOf, cellsOf, actionRead};
 ghost use Rattle.model.specs.QValue.{cut, q};
 ghost use Rattle.sheet.specs.Sheet.{Priced, ofKind};
+use super::convert::word_to_long;
 use super::fields::action_cost;
 use super::fields::next_action;
 use super::fields::successor;
 use super::fields::value_at;
-use super::numbers::long;
 use model::CEILING;
 use model::LONG_CEILING;
+use model::format;
 
 // What pricing an action gives.
 pub struct Pricing {
@@ -28,10 +30,14 @@ fn larger(x: u64, y: u64) -> u64
 
 // Of the largest value and the sum, the one that the sheet's kind counts: the largest on a worst sheet (kind 0), the sum on a whole one.
 fn of_kind(sheet: &[u8], most: u64, total: u64) -> u64
-    requires { ⌜ 3 < length (now sheet) ⌝ }
+    requires { ⌜ kindIn < length (now sheet) ⌝ }
     ensures { λ r. ⌜ r ≡ ofKind (problemOf (now (sheet .entry)) .kind) most total ⌝ }
 {
-    if sheet[3] == 0 { most } else { total }
+    if sheet[format::KIND_IN] == format::WORST {
+        most
+    } else {
+        total
+    }
 }
 
 // A number, cut to the ceiling.
@@ -56,14 +62,14 @@ pub fn price(sheet: &[u8], table: &[u32], at: usize) -> Pricing
     loop {
         let t = successor(sheet, at, j);
         j += 1;
-        let x = long(value_at(sheet, table, t));
+        let x = word_to_long(value_at(sheet, table, t));
         total += x;
         most = larger(most, x);
-        if end <= at + 7 + 2 * j {
+        if end <= at + format::SUCCESSORS_IN + format::SUCCESSOR_BYTES * j {
             break;
         }
     }
-    let cost = long(action_cost(sheet, at));
+    let cost = word_to_long(action_cost(sheet, at));
     Pricing {
         price: cut_off(cost + of_kind(sheet, most, total)),
     }

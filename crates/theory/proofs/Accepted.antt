@@ -8,11 +8,12 @@ use native.Mathlib.Omega.{arith}
 use borrow.Author.Tests.{ltb-true, leb-true, eqb-true, lt-ltb, le-leb, eq-eqb}
 use lib.Dec.{leb}
 use lib.ListN.{length, List·getD-eq-default}
-use Rattle.model.specs.Tests.{fork, also-true, true-also, all-true, true-all, every-true, true-every}
+use Rattle.model.proofs.TestLaws.{also-true, true-also, all-true, true-all, every-true, true-every}
+use Rattle.model.specs.Tests.{fork}
 use Rattle.model.specs.Problem.{Action, action, Node, terminal, decision, Problem, Cell, cell, states, nodeAt, actionAt}
 use Rattle.model.specs.Problem.{cellOf, solved, _∈_, here, there}
-use Rattle.model.specs.QValue.{ceiling}
-use Rattle.model.specs.Questions.{maxCost, costsInRange, chosenInRange, cellInRange, question5, successorsInOrder, question6}
+use Rattle.model.specs.Limits.{ceiling, maxCost}
+use Rattle.model.specs.Questions.{costsInRange, chosenInRange, cellInRange, question5, successorsInOrder, question6}
 use Rattle.model.specs.Questions.{valueUnder, question7, allSolved, passedBy, markEarned, question8}
 use Rattle.layout.proofs.Shapes.{node-shaped, ascending-in}
 use Rattle.layout.specs.Shape.{NodeShaped, ChosenShaped}

@@ -7,7 +7,8 @@ use mathlib.Core.Logic.{_⊎_, inl, inr}
 use mathlib.Core.List.{List}
 use native.Mathlib.Omega.{arith}
 use Rattle.model.specs.Problem.{Action, Node, terminal, decision, Problem, Cell, states, nodeAt, actionAt, cellOf, valueOf, solved}
-use Rattle.model.specs.QValue.{ceiling, cut, q, qFull, least}
+use Rattle.model.specs.Limits.{ceiling}
+use Rattle.model.specs.QValue.{cut, q, qFull, least}
 use Rattle.model.specs.Optimal.{bellmanCutAt, bellmanCut, optimal}
 use Rattle.model.specs.Policy.{Policy, Reach, arrived, onward, Closed, policyCost, written}
 use Rattle.theory.specs.Consistent.{WellFormed, Consistent}

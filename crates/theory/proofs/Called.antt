@@ -7,8 +7,8 @@ use native.Mathlib.Omega.{arith}
 use Rattle.model.specs.Problem.{Node, terminal, decision, Problem, Cell, states, nodeAt, cellOf, valueOf, solved}
 use Rattle.model.specs.Format.{Bytes, write}
 use Rattle.model.specs.Read.{problemOf, cellsOf}
-use Rattle.model.specs.QValue.{ceiling}
-use Rattle.model.specs.Questions.{question2, refusal}
+use Rattle.model.specs.Limits.{ceiling}
+use Rattle.model.specs.Questions.{question2, questions, refusal, First}
 use Rattle.model.specs.Ldfs.{Passes, work}
 use Rattle.model.specs.Optimal.{sumBelow}
 use Rattle.model.specs.Report.{cellsAfter, refused, finished, onRefusal, answerTo, bytesAfter}
@@ -18,6 +18,8 @@ use Rattle.layout.proofs.Shapes.{node-shaped}
 use Rattle.layout.proofs.Places.{write-length}
 use Rattle.layout.proofs.Stay.{FitsField, write-bytes}
 use Rattle.theory.specs.Consistent.{WellFormed, Consistent}
+use Rattle.theory.proofs.Basics.{clash}
+use Rattle.theory.proofs.Refusals.{first-refuses, unrefused-yes}
 use Rattle.theory.proofs.Leads.{solved-of}
 use Rattle.theory.proofs.Work.{Worked, work-does}
 use Rattle.theory.proofs.Accepted.{asked-problem, asked-cells, still-asked}
@@ -40,6 +42,11 @@ module _ (s : List ℕ) (entries budget : ℕ) where
   pub answer-refused : (n : ℕ) → refusal s entries budget ≡ suc n → answerTo s entries budget ≡ refused budget (suc n)
   unfolding answerTo onRefusal
   answer-refused n e = rw e
+
+  -- where question k is the first that is answered no, the answer is the refusal k
+  pub answer-first : (k : ℕ) → First (questions s entries budget) k → answerTo s entries budget ≡ refused budget k
+  answer-first zero f = clash (unrefused-yes s entries budget (first-refuses s entries budget 0 f) (f .behind)) (f .no)
+  answer-first (suc n) f = answer-refused n (first-refuses s entries budget (suc n) f)
 
   pub bytes-refused : (n : ℕ) → refusal s entries budget ≡ suc n → bytesAfter s entries budget ≡ s
   unfolding bytesAfter onRefusal

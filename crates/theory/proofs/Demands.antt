@@ -11,7 +11,8 @@ use Rattle.model.specs.Tests.{fork}
 use Rattle.model.specs.Problem.{Problem, Cell, cellOf, valueOf, solved}
 use Rattle.model.specs.Format.{Bytes}
 use Rattle.model.specs.Read.{problemOf, cellsOf}
-use Rattle.model.specs.QValue.{ceiling, cut}
+use Rattle.model.specs.Limits.{ceiling}
+use Rattle.model.specs.QValue.{cut}
 use Rattle.model.specs.Questions.{question1, question9, refusal}
 use Rattle.model.specs.Optimal.{gaps}
 use Rattle.model.specs.Report.{outcomeOf, cellsAfter, refused as refusedAnswer, finished, bytesAfter}
@@ -21,7 +22,7 @@ use Rattle.theory.proofs.Basics.{clash}
 use Rattle.theory.proofs.Leads.{solved-of}
 use Rattle.theory.proofs.Admissible.{below-optimal, solved-optimal, written-closed, written-costs, value-least}
 use Rattle.theory.proofs.Work.{Worked}
-use Rattle.theory.proofs.Refusals.{refused-first, refused-small, unrefused-yes}
+use Rattle.theory.proofs.Refusals.{refused-first, refused-below, unrefused-yes}
 use Rattle.theory.proofs.Sheets.{Stands, accepted-stands, stands-problem, stands-cells, stands-accepted, refusals-left, unrefused}
 use Rattle.theory.proofs.Called.{workOn, answer-worked, answer-refused, budget-given, call-worked, call-refused}
 use Rattle.theory.proofs.Called.{work-done, worked-stands, call-does, CalledAll, calls-do}
@@ -34,7 +35,7 @@ demand1 s entries budget = go (refusal s entries budget) refl
   where
     go : (n : ℕ) → refusal s entries budget ≡ n → Demand1 s entries budget (callOn s entries budget)
     go zero e = rw (call-worked s entries budget e) (worked (unrefused-yes s entries budget e) (outcome-says _ .some))
-    go (suc k) e = rw (call-refused s entries budget k e) (refused k (refused-first s entries budget k e) refl (refl, refl, refl) refl)
+    go (suc k) e = rw (call-refused s entries budget k e) (refused (refused-first s entries budget k e) (refl, refl, refl) refl)
 
 -- the plan written in a sheet whose start is settled below the ceiling
 best-plan : (s : List ℕ) (p : Problem) (cells : List Cell) → Stands s p cells →
@@ -59,9 +60,9 @@ startLeft s budget = cellOf (cellsLeft s budget) (problemOf s .start)
 refused-right : (s : List ℕ) (entries budget k : ℕ) → refusal s entries budget ≡ suc k →
     Demand2 s entries budget (callOf (refusedAnswer budget (suc k)) s)
 refused-right s entries budget k e =
-    let few = refused-small s entries budget k e in
+    let few = refused-below s entries budget k e in
     record {
-      refused-for = λ _. (k, refused-first s entries budget k e .no);
+      refused-for = λ _. let f = refused-first s entries budget k e in (f .behind, f .no);
       refused-where = λ i no. omega arith;
       settled = λ z. absurd (omega arith);
       over = λ z. absurd (omega arith);
@@ -89,6 +90,11 @@ module _ (s : List ℕ) (entries budget : ℕ) (e : refusal s entries budget ≡
   start-optimal : solved (startLeft s budget) ≡ true → startLeft s budget .value ≡ cut (startCost s)
   start-optimal = solved-optimal (problemOf s) (problem-of h) (cellsLeft s budget) (cells-of after) (problemOf s .start)
 
+  start-below : startLeft s budget .value ≤ startCost s
+  start-below =
+      let cut-below = below-optimal (problemOf s) (problem-of h) (cellsLeft s budget) (cells-of after) (problemOf s .start) in
+      omega (arith, cut-below)
+
   worked-right : Demand2 s entries budget (callOf (finished (problemOf s) budget (workOn s budget)) (bytesAfter s entries budget))
   worked-right = record {
     refused-for = λ few. absurd (above few (says .some));
@@ -101,7 +107,7 @@ module _ (s : List ℕ) (entries budget : ℕ) (e : refusal s entries budget ≡
     };
     over = λ n. let o = says .over n in let v = start-optimal (o .0) in
         record { price = omega (arith, o .1); above = omega (arith, o .1); marked = rw end (o .0) };
-    stopped = λ n. let o = says .stopped n in record { spent = done .spent o; still-open = rw end o };
+    stopped = λ n. let o = says .stopped n in record { spent = done .spent o; still-open = rw end o; bound = start-below };
     price-is-value = λ _. rw end;
     given = refl;
     raises-within = done .within;
@@ -140,7 +146,7 @@ worked-number s entries budget n = go (refusal s entries budget) refl
     go zero e = refl
     go (suc k) e =
         let same = ap (λ (c : Call). c .number) (call-refused s entries budget k e) in
-        absurd (omega (arith, same, refused-small s entries budget k e))
+        absurd (omega (arith, same, refused-below s entries budget k e))
 
 -- the sheet of such a call is accepted
 pub worked-accepted : (s : List ℕ) → Bytes s → (entries budget : ℕ) → 100 ≤ callOn s entries budget .number → Accepted s

@@ -8,11 +8,13 @@ use native.Mathlib.Omega.{arith}
 use borrow.Author.Tests.{ltb-true}
 use lib.Dec.{lit<, ltb}
 use lib.ListN.{length, getD, List·getD-eq-default}
-use Rattle.model.specs.Tests.{every, every-true}
+use Rattle.model.proofs.TestLaws.{every-true}
+use Rattle.model.specs.Tests.{every}
 use Rattle.model.specs.Problem.{valueOf}
 use Rattle.model.specs.Format.{Bytes}
 use Rattle.model.specs.Read.{problemOf, cellsOf}
-use Rattle.model.specs.Report.{computing, bytesAfter, largest}
+use Rattle.model.proofs.Computing.{computing}
+use Rattle.model.specs.Report.{bytesAfter, largest}
 use Rattle.model.specs.Calls.{Call, callOn, Calls, none, one, left}
 use Rattle.model.specs.Demands.{Accepted, Best, Demand3}
 use Rattle.model.specs.Rows.{sheetA}

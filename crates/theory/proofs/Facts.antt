@@ -7,7 +7,7 @@ use native.Mathlib.Omega.{arith}
 use borrow.Author.Tests.{lt-ltb, le-ltb}
 use lib.Seq.{set-getD}
 use Rattle.model.specs.Problem.{Action, terminal, decision, Problem, cell, nodeAt, _∈_, here, there}
-use Rattle.model.specs.QValue.{ceiling}
+use Rattle.model.specs.Limits.{ceiling}
 use Rattle.model.specs.Ldfs.{Search, Visit, success, halt, valueAt, solvedAt, priceAt, onTest, onVisit, stored, marked}
 use Rattle.model.specs.Ldfs.{update, ifDear, visitAll, tryOne, tryAll, visitOpen, visit}
 

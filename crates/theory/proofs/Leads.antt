@@ -8,7 +8,8 @@ use native.Mathlib.Omega.{arith}
 use lib.ListN.{length, set, length-set}
 use lib.Seq.{getD-set-same, getD-set-other}
 use Rattle.model.specs.Problem.{Action, terminal, decision, Problem, Cell, cell, states, nodeAt, actionAt, cellOf, valueOf, solved, _∈_}
-use Rattle.model.specs.QValue.{ceiling, q}
+use Rattle.model.specs.Limits.{ceiling}
+use Rattle.model.specs.QValue.{q}
 use Rattle.model.specs.Ldfs.{Search, cellAt, valueAt, solvedAt, priceAt, raised, marked}
 use Rattle.model.specs.Optimal.{sumBelow}
 use Rattle.theory.specs.Consistent.{Sound, Consistent}

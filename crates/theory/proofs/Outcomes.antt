@@ -11,10 +11,10 @@ use Rattle.model.specs.declared.Outcome.{Outcome}
 use Rattle.model.specs.declared.Outcome.the-variants.{Settled, Over, Stopped}
 use Rattle.model.specs.Tests.{fork}
 use Rattle.model.specs.Problem.{Cell, solved}
-use Rattle.model.specs.QValue.{ceiling}
+use Rattle.model.specs.Limits.{ceiling}
 use Rattle.model.specs.Questions.{refusal}
 use Rattle.model.specs.Report.{number, outcomeOf, answerTo}
-use Rattle.theory.proofs.Refusals.{refused-small}
+use Rattle.theory.proofs.Refusals.{refused-below}
 use Rattle.theory.proofs.Called.{answer-worked, answer-refused}
 
 -- an outcome's number tells which case it is: no refusal has the number of another outcome
@@ -66,6 +66,6 @@ numbered s entries budget = go (refusal s entries budget) refl
     go : (n : ℕ) → refusal s entries budget ≡ n → Numbered (answerTo s entries budget .outcome)
     go zero e = rw (answer-worked s entries budget e) (outcome-says _ .numbered)
     go (suc k) e =
-        let few = refused-small s entries budget k e in
+        let few = refused-below s entries budget k e in
         rw (answer-refused s entries budget k e)
         (record { settled = λ z. absurd (omega arith); over = λ z. absurd (omega arith); stopped = λ z. absurd (omega arith) })

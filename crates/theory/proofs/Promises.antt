@@ -7,7 +7,8 @@ use native.Mathlib.Omega.{arith}
 use Rattle.model.specs.Problem.{Problem, Cell, states, cellOf, valueOf, solved}
 use Rattle.model.specs.Format.{Bytes}
 use Rattle.model.specs.Read.{problemOf, cellsOf}
-use Rattle.model.specs.QValue.{ceiling, cut}
+use Rattle.model.specs.Limits.{ceiling}
+use Rattle.model.specs.QValue.{cut}
 use Rattle.model.specs.Questions.{refusal}
 use Rattle.model.specs.Optimal.{bellman, bellmanCut, optimal, sumBelow, gap, gaps}
 use Rattle.model.specs.Policy.{Policy, Closed, policyCost, written}

@@ -5,7 +5,7 @@ use mathlib.Core.Bool.{true, false}
 use mathlib.Core.List.{List}
 use native.Mathlib.Omega.{arith}
 use Rattle.model.specs.Problem.{Problem, Cell, states, cellOf, valueOf, solved}
-use Rattle.model.specs.QValue.{ceiling}
+use Rattle.model.specs.Limits.{ceiling}
 use Rattle.model.specs.Ldfs.{Search, Visit, success, failure, halt, solvedAt, visit, Passes, onPass, passes, searchOf, work}
 use Rattle.model.specs.Optimal.{sumBelow}
 use Rattle.model.specs.Report.{cellsAfter, raisesOf}

@@ -5,7 +5,8 @@ use mathlib.Core.Bool.{true, false}
 use mathlib.Core.List.{List}
 use lib.ListN.{length}
 use Rattle.model.specs.Problem.{Action, terminal, decision, Problem, Cell, states, nodeAt, actionAt, cellOf, valueOf, solved, _∈_}
-use Rattle.model.specs.QValue.{ceiling, q}
+use Rattle.model.specs.Limits.{ceiling}
+use Rattle.model.specs.QValue.{q}
 
 -- of the problem alone
 pub record WellFormed (p : Problem) : Type 0 where

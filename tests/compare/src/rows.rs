@@ -1,4 +1,4 @@
-//! Document 01's rows, run through the library and through both programs. The numbers are the document's.
+//! The worked examples (S11 of docs/SPEC.md), run through the library and through both programs. The numbers are those of the specification.
 
 use crate::coverage::Coverage;
 use crate::draft::{Action, Draft, Node};
@@ -85,10 +85,10 @@ const LINES_OF_A: &str = "settled 500 3 3\nstage 0 check 1 value 500\nstage 3 en
 /// Puts every row to all three, and sheet A to the `price` program if there is one. The error says what the row gave.
 pub fn run(price: Option<&str>) -> Result<Coverage, String> {
     let mut seen = Coverage::default();
-    let a_stopped = call("A, allowance 2", &sheet_a().bytes(), 2, Answer(102, 200, 2, 2))?;
+    let a_stopped = call("A, budget 2", &sheet_a().bytes(), 2, Answer(102, 200, 2, 2))?;
     let rows = [
         ("one ending, cost 0", one_ending(0).bytes(), LARGEST, Answer(100, 0, 1, 0)),
-        ("one ending, cost 70, allowance 1", one_ending(70).bytes(), 1, Answer(100, 70, 1, 1)),
+        ("one ending, cost 70, budget 1", one_ending(70).bytes(), 1, Answer(100, 70, 1, 1)),
         ("A", sheet_a().bytes(), LARGEST, Answer(100, 500, 3, 3)),
         ("that sheet carried on", a_stopped, LARGEST, Answer(100, 500, 2, 1)),
         ("B worst", sheet_b(0).bytes(), LARGEST, Answer(100, 150, 4, 5)),
@@ -98,7 +98,7 @@ pub fn run(price: Option<&str>) -> Result<Coverage, String> {
         ("number of stages 0", but(sheet_b(0), |b| b.count = 0), LARGEST, refused(3)),
         ("B, finding 1 replaced by 0", but(sheet_b(0), |b| set_first_check(b, check(100, &[0, 2]))), LARGEST, refused(6)),
         ("B, ending 1 settled at 0", but(sheet_b(0), |b| b.states[1].mark = 1), LARGEST, refused(8)),
-        ("A, allowance 0", sheet_a().bytes(), 0, refused(9)),
+        ("A, budget 0", sheet_a().bytes(), 0, refused(9)),
         ("chain, ending 999,999", long_chain(999_999).bytes(), LARGEST, Answer(100, 999_999_999, 1, 0)),
         ("chain, ending 1,000,000", long_chain(1_000_000).bytes(), LARGEST, Answer(101, 1_000_000_000, 1, 0)),
         ("check cost 0 and a cut last field", bad_cost_and_cut(), LARGEST, refused(4)),
@@ -107,7 +107,7 @@ pub fn run(price: Option<&str>) -> Result<Coverage, String> {
         ("16 findings", with_findings(16).bytes(), LARGEST, Accepted),
         ("17 findings", with_findings(17).bytes(), LARGEST, refused(4)),
     ];
-    seen.add("rows of document 01", 1 + rows.len() as u64);
+    seen.add("worked examples", 1 + rows.len() as u64);
     for (name, bytes, budget, expected) in rows {
         call(name, &bytes, budget, expected)?;
     }

@@ -2,7 +2,7 @@
 -- between two places lengthens the name that is bound for the later one by a `.before`.
 use native.Mathlib.Omega.{arith}
 use borrow.Author.Needs.{needs}
-use Rattle.model.specs.Questions.{maxStates}
+use Rattle.model.specs.Limits.{maxStates}
 use Rattle.host.proofs.Hosted.{no-room, short-table, long-table}
 use Rattle.host.proofs.ldfs_solve.Statement.{statement}
 use Rattle.host.proofs.ldfs_solve.Tie as tie

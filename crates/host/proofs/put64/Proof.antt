@@ -1,3 +1,5 @@
+-- The low half is put first, the high half behind it. A line of code put between two places lengthens the name that is bound for the
+-- earlier one by a `.before`.
 use Prim.Native.Nat.{_/_, _%_}
 use native.Mathlib.Omega.{arith}
 use borrow.Author.Needs.{needs}
@@ -20,7 +22,12 @@ same-length c = search needs
 
 returns : tie.Need-returns
 returns c =
-    let a = c .before .before .before .before .before .before .before .before .before .args in placed-then (a .s .now) _ _ (le32 (a .x % 4294967296)) (le32 (a .x / 4294967296)) (a .at) (omega (arith, c .before .before .before .before .before .before .before .before .before .pre)) (c .before .before .before .before .before .before .put32 .ensures) (c .before .before .put322 .ensures)
+    let high = c .before .before in
+    let low = high .before .before .before .before in
+    let st = low .before .before .before in
+    let a = st .args in
+    placed-then (a .s .now) _ _ (le32 (a .x % 4294967296)) (le32 (a .x / 4294967296)) (a .at) (omega (arith, st .pre))
+    (low .put32 .ensures) (high .put322 .ensures)
 
 pub put64-spec : {M : Type 1} → statement M
 put64-spec = tie.close (tie.spec put32-requires add-put32 put32-requires-2 same-length returns)

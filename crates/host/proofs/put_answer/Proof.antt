@@ -1,3 +1,5 @@
+-- Price, passes and raises are put one behind the other. A line of code put between two of them lengthens the name that is bound for the
+-- earlier one by a `.before`.
 use borrow.Author.Needs.{needs}
 use Rattle.host.proofs.Bytes.{three-put}
 use Rattle.host.proofs.put_answer.Statement.{statement}
@@ -17,7 +19,11 @@ same-length c = search needs
 
 returns : tie.Need-returns
 returns c =
-    three-put (c .before .before .before .before .before .before .before .before .before .before .before .before .before .args .result .now) _ _ _ _ _ _ (c .before .before .before .before .before .before .before .before .before .before .before .before .before .pre) (c .before .before .before .before .before .before .before .before .before .before .put64 .ensures) (c .before .before .before .before .before .before .put642 .ensures) (c .before .before .put643 .ensures)
+    let raises = c .before .before in
+    let passes = raises .before .before .before .before in
+    let price = passes .before .before .before .before in
+    let st = price .before .before .before in
+    three-put (st .args .result .now) _ _ _ _ _ _ (st .pre) (price .put64 .ensures) (passes .put642 .ensures) (raises .put643 .ensures)
 
 pub put-answer-spec : {M : Type 1} → statement M
 put-answer-spec =

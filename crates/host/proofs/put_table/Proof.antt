@@ -1,11 +1,13 @@
--- The two loops fill one row of entries: the second goes on where the first, at the table's end, has come to.
+-- The two loops fill one row of entries: the second goes on where the first, at the table's end, has come to. A line of code put into the
+-- first loop lengthens `loop-of` by a `.before`, one put into the second `loop2-of`, one between them `first-of`, one before them
+-- `start-of`.
 use Prim.Native.Nat.{ℕ, _-_, _≤_}
 use mathlib.Core.Path.{_≡_, refl, _∙_}
 use mathlib.Core.List.{List}
 use native.Mathlib.Omega.{arith}
 use borrow.Author.Needs.{needs}
 use lib.ListN.{length}
-use Rattle.model.specs.Questions.{maxStates}
+use Rattle.model.specs.Limits.{maxStates}
 use Rattle.host.proofs.Bytes.{Entered, entered-none, entered-more, entered-all}
 use Rattle.host.proofs.put_table.Statement.{statement}
 use Rattle.host.proofs.put_table.Tie as tie
@@ -24,6 +26,19 @@ Inv-loop2 bytes₁ table n i₁ bytes i =
 abbrev μ-loop2 : tie.MeasureT-loop2
 μ-loop2 bytes₁ table n i₁ bytes i = n - i
 
+-- the call, from the first loop; the first loop, from the second; each loop, from where its entry is known
+abbrev start-of : tie.At-loop Inv-loop μ-loop Inv-loop2 μ-loop2 → tie.Start Inv-loop μ-loop Inv-loop2 μ-loop2
+start-of c = c .before .before
+
+abbrev first-of : tie.At-loop2 Inv-loop μ-loop Inv-loop2 μ-loop2 → tie.At-loop Inv-loop μ-loop Inv-loop2 μ-loop2
+first-of c = c .before .before
+
+abbrev loop-of : tie.After-entry Inv-loop μ-loop Inv-loop2 μ-loop2 → tie.At-loop Inv-loop μ-loop Inv-loop2 μ-loop2
+loop-of c = c .before .before .before .before
+
+abbrev loop2-of : tie.After-entry2 Inv-loop μ-loop Inv-loop2 μ-loop2 → tie.At-loop2 Inv-loop μ-loop Inv-loop2 μ-loop2
+loop2-of c = c .before .before .before .before
+
 loop-holds : tie.Need-loop-holds Inv-loop μ-loop Inv-loop2 μ-loop2
 loop-holds c = (omega arith, entered-none _ _ _)
 
@@ -35,7 +50,7 @@ entry-requires c κs = tt
 
 put32-requires : tie.Need-put32-requires Inv-loop μ-loop Inv-loop2 μ-loop2
 put32-requires c κs =
-    let l = c .before .before .before .before in (omega (arith, l .loop .inv .1 .long, l .before .before .pre), c .entry .ensures .1)
+    let l = loop-of c in (omega (arith, l .loop .inv .1 .long, start-of l .pre), c .entry .ensures .1)
 
 add-i : tie.Need-add-i Inv-loop μ-loop Inv-loop2 μ-loop2
 add-i c = search needs
@@ -46,13 +61,13 @@ loop-less c = omega arith
 loop-again : tie.Need-loop-again Inv-loop μ-loop Inv-loop2 μ-loop2
 loop-again c =
     let put = c .before .before in
-    let test = put .before .before .before .before in
-    let l = test .before in
-    let st = l .before .before in
-    let lt : l .loop .i ≤ maxStates - 1 = omega (arith, test .loop-test .taken) in
+    let read = put .before in
+    let l = loop-of read in
+    let st = start-of l in
+    let lt : l .loop .i ≤ maxStates - 1 = omega (arith, read .before .before .before .loop-test .taken) in
     let more = entered-more (st .args .bytes .now) (st .args .table .now) _ _ _ (l .loop .inv .1) in (
       omega (arith, lt),
-      more (omega (arith, lt, st .pre)) (omega arith) _ (put .before .entry .ensures .0) _ (c .before .bytes .given) (put .put32 .ensures),
+      more (omega (arith, lt, st .pre)) (omega arith) _ (read .entry .ensures .0) _ (c .before .bytes .given) (put .put32 .ensures),
     )
 
 loop2-holds : tie.Need-loop2-holds Inv-loop μ-loop Inv-loop2 μ-loop2
@@ -66,8 +81,7 @@ entry-requires-2 c κs = tt
 
 put32-requires-2 : tie.Need-put32-requires-2 Inv-loop μ-loop Inv-loop2 μ-loop2
 put32-requires-2 c κs =
-    let l = c .before .before .before .before in
-    (omega (arith, l .loop2 .inv .0, l .before .before .loop .inv .1 .long), c .entry2 .ensures .1)
+    let l = loop2-of c in (omega (arith, l .loop2 .inv .0, first-of l .loop .inv .1 .long), c .entry2 .ensures .1)
 
 add-i-2 : tie.Need-add-i-2 Inv-loop μ-loop Inv-loop2 μ-loop2
 add-i-2 c = search needs
@@ -78,23 +92,24 @@ loop2-less c = omega arith
 loop2-again : tie.Need-loop2-again Inv-loop μ-loop Inv-loop2 μ-loop2
 loop2-again c =
     let put = c .before .before in
-    let test = put .before .before .before .before in
-    let l = test .before in
-    let first = l .before .before in
-    let table = first .before .before .args .table .now in (
+    let read = put .before in
+    let test = read .before .before .before in
+    let l = loop2-of read in
+    let first = first-of l in
+    let table = start-of first .args .table .now in (
       c .before .bytes2 .given ∙ l .loop2 .inv .0,
       λ b e.
           entered-more b table _ _ _ (l .loop2 .inv .1 b e) (test .loop2-test .taken) (omega (arith, first .loop .inv .1 .long, e .long)) _
-          (put .before .entry2 .ensures .0) _ (c .before .bytes2 .given) (put .put322 .ensures),
+          (read .entry2 .ensures .0) _ (c .before .bytes2 .given) (put .put322 .ensures),
     )
 
 same-length : tie.Need-same-length Inv-loop μ-loop Inv-loop2 μ-loop2
-same-length c = c .before .loop2 .inv .0 ∙ c .before .before .before .loop .inv .1 .long
+same-length c = c .before .loop2 .inv .0 ∙ first-of (c .before) .loop .inv .1 .long
 
 returns : tie.Need-returns Inv-loop μ-loop Inv-loop2 μ-loop2
 returns c =
-    let first = c .before .before .before in
-    let a = first .before .before .args in
+    let first = first-of (c .before) in
+    let a = start-of first .args in
     entered-all (a .bytes .now) (a .table .now) _ _ _ (c .before .loop2 .inv .1 _ (first .loop .inv .1)) (c .loop2-test .left)
 
 pub put-table-spec : {M : Type 1} → statement M

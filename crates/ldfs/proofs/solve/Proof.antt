@@ -1,4 +1,5 @@
--- The table is cleared, and `solve_zeroed` does the rest.
+-- The table is cleared, and `solve_zeroed` does the rest. A line of code put between two places lengthens the name that is bound for the
+-- earlier one by a `.before`.
 use borrow.Author.Needs.{needs}
 use Rattle.ldfs.proofs.Solving.{refused-short, from-zeros}
 use Rattle.ldfs.proofs.solve.Statement.{statement}

@@ -12,8 +12,11 @@ use Rattle.ldfs.proofs.solve_zeroed.Statement.{statement}
 use Rattle.ldfs.proofs.solve_zeroed.Tie as tie
 
 -- from place to place
+abbrev known-of : tie.After-ask → tie.After-slice-known
+known-of c = c .before .before .before .before
+
 abbrev start-of : tie.After-ask → tie.Start
-start-of c = c .before .before .before .before .before
+start-of c = known-of c .before
 
 abbrev ask-of : tie.After-enum-told → tie.After-ask
 ask-of c = c .before .before .before .before
@@ -24,7 +27,7 @@ accepted-at : (c : tie.After-enum-told) →
 accepted-at c = sym (c .enum-told .given .1) ∙ ask-of c .ask .ensures .0
 
 bytes-at : (c : tie.After-ask) → Bytes (start-of c .args .sheet .now)
-bytes-at c = λ i. c .before .before .before .before .slice-known .given i .fits
+bytes-at c = λ i. known-of c .slice-known .given i .fits
 
 ask-requires : tie.Need-ask-requires
 ask-requires c κs = search needs
@@ -60,9 +63,9 @@ same-length-2 c = search needs
 
 returns : tie.Need-returns
 returns c =
-    let a = c .before .before .before .before .before .before in
-    refused-by _ _ (start-of a .args .budget) _ (sym (c .before .before .v .given .1) ∙ a .ask .ensures .0) _ (c .refusal .ensures) _
-    (a .ask .ensures .1)
+    let no = c .before .before in
+    let a = no .before .before .before .before in
+    refused-by _ _ (start-of a .args .budget) _ (sym (no .v .given .1) ∙ a .ask .ensures .0) _ (c .refusal .ensures) _ (a .ask .ensures .1)
 
 same-length-3 : tie.Need-same-length-3
 same-length-3 c = search needs
@@ -72,10 +75,12 @@ same-length-4 c = search needs
 
 returns-2 : tie.Need-returns-2
 returns-2 c =
-    let yes = c .before .before .before .before .before .before in
+    let cleared = c .before .before .before in
+    let none = cleared .before .before in
+    let yes = none .before in
     let a = ask-of yes in
-    no-budget _ _ _ (accepted-at yes) (bytes-at a) _ (a .ask .ensures .1) (c .before .before .before .before .before .if1 .taken) _
-    (c .refusal2 .ensures) _ (c .before .before .before .clear .ensures)
+    no-budget _ _ _ (accepted-at yes) (bytes-at a) _ (a .ask .ensures .1) (none .if1 .taken) _ (c .refusal2 .ensures) _
+    (cleared .clear .ensures)
 
 same-length-5 : tie.Need-same-length-5
 same-length-5 c = search needs
@@ -85,10 +90,11 @@ same-length-6 c = search needs
 
 returns-3 : tie.Need-returns-3
 returns-3 c =
-    let yes = c .before .before .before .before .before .before in
+    let finished = c .before .before in
+    let some = finished .before .before .before in
+    let yes = some .before in
     let a = ask-of yes in
-    worked _ _ _ (accepted-at yes) (bytes-at a) _ (a .ask .ensures .1) (c .before .before .before .before .before .if1 .left) _ _
-    (c .before .before .finish .ensures)
+    worked _ _ _ (accepted-at yes) (bytes-at a) _ (a .ask .ensures .1) (some .if1 .left) _ _ (finished .finish .ensures)
 
 pub solve-zeroed-spec : {M : Type 1} → statement M
 solve-zeroed-spec =

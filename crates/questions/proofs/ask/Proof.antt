@@ -1,3 +1,4 @@
+-- A line of code put behind the questions lengthens `no` or `cleared` of the two answers at the end by a `.before`.
 use borrow.Author.Needs.{needs}
 use Rattle.questions.proofs.Asking.{short-table, accepted-table, refused-table}
 use Rattle.questions.proofs.ask.Statement.{statement}

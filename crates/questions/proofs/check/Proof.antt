@@ -1,3 +1,4 @@
+-- A line of code put into the function lengthens one of the three places of the answer at the end by a `.before`.
 use borrow.Author.Needs.{needs}
 use Rattle.questions.proofs.Asking.{short-table, cleared-table}
 use Rattle.questions.proofs.check.Statement.{statement}

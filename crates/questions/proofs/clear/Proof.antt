@@ -1,3 +1,5 @@
+-- The loop's invariant: up to `from` the table is as it was, and from there to i it has zeros. A line of code put into the loop lengthens
+-- the answers behind it by a `.before`.
 use Prim.Native.Nat.{_-_, _≤_, max}
 use mathlib.Core.Path.{_≡_, refl}
 use mathlib.Core.List.{_++_, append-nil}

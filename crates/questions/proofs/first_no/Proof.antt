@@ -1,4 +1,4 @@
--- A line of code put before the stages' place lengthens one of the functions from place to place by a `.before`, and one behind it the
+-- A line of code put before the states' place lengthens one of the functions from place to place by a `.before`, and one behind it the
 -- answers there.
 use mathlib.Core.Path.{_≡_, sym, _∙_}
 use mathlib.Core.Bool.{true}
@@ -11,30 +11,30 @@ use Rattle.questions.proofs.Asking.{Laid, too-short, too-long, no-3, no
 use Rattle.questions.proofs.first_no.Statement.{statement}
 use Rattle.questions.proofs.first_no.Tie as tie
 
--- the call, from where the length is right; that place, from where the head is; that one, from the number of stages; and that, from
--- the stages
+-- the call, from where the length is right; that place, from where the head is; that one, from the number of states; and that, from
+-- the states
 abbrev start-of : tie.Else2 → tie.Start
 start-of c = c .before .before .before .before
 
 abbrev sized-of : tie.Then3 → tie.Else2
 sized-of c = c .before .before
 
-abbrev headed-of : tie.After-place → tie.Then3
+abbrev headed-of : tie.After-word-to-index → tie.Then3
 headed-of c = c .before .before
 
-abbrev counted-of : tie.After-stages-in-place → tie.After-place
+abbrev counted-of : tie.After-fields-in-place → tie.After-word-to-index
 counted-of c = c .before .before
 
--- the head is in place, and n is its number of stages
+-- the head is in place, and n is its number of states
 headed : (c : tie.Then3) → question3 (start-of (sized-of c) .args .sheet .now) ≡ true
 headed c = sym (c .before .head-in-place .ensures) ∙ c .if3 .taken
 
-counted : (c : tie.After-place) → c .place .result ≡ be16 (start-of (sized-of (headed-of c)) .args .sheet .now) 4
-counted c = c .place .ensures .0 ∙ c .before .get16 .ensures .0
+counted : (c : tie.After-word-to-index) → c .word-to-index .result ≡ be16 (start-of (sized-of (headed-of c)) .args .sheet .now) 4
+counted c = c .word-to-index .ensures .0 ∙ c .before .get16 .ensures .0
 
--- the stages are in place
+-- the states are in place
 laid : (c : tie.Then4) → let n = counted-of (c .before .before .before) in
-    Laid (start-of (sized-of (headed-of n)) .args .sheet .now) (n .place .result)
+    Laid (start-of (sized-of (headed-of n)) .args .sheet .now) (n .word-to-index .result)
 laid c =
     let stages = c .before .before .before in
     let n = counted-of stages in
@@ -44,7 +44,7 @@ laid c =
       most = size .if2 .left;
       head = headed (headed-of n);
       count = counted n;
-      good = sym (stages .stages-in-place .ensures .0) ∙ c .if4 .taken;
+      good = sym (stages .fields-in-place .ensures .0) ∙ c .if4 .taken;
     }
 
 -- the bytes are bytes
@@ -65,11 +65,11 @@ head-in-place-requires c κs = omega arith
 get16-requires : tie.Need-get16-requires
 get16-requires c κs = omega arith
 
-place-requires : tie.Need-place-requires
-place-requires c κs = search needs
+word-to-index-requires : tie.Need-word-to-index-requires
+word-to-index-requires c κs = search needs
 
-stages-in-place-requires : tie.Need-stages-in-place-requires
-stages-in-place-requires c κs =
+fields-in-place-requires : tie.Need-fields-in-place-requires
+fields-in-place-requires c κs =
     let n = c .before in
     let size = sized-of (headed-of n) in
     let h = head-says (start-of size .args .sheet .now) (headed (headed-of n)) in
@@ -80,7 +80,7 @@ states-no-requires c κs =
     let yes = c .before in
     let stages = yes .before .before .before in
     let size = sized-of (headed-of (counted-of stages)) in
-    (zero-within (laid yes) (bytes size) _ _ (stages .stages-in-place .ensures .1 (yes .if4 .taken)), states-are (laid yes))
+    (zero-within (laid yes) (bytes size) _ _ (stages .fields-in-place .ensures .1 (yes .if4 .taken)), states-are (laid yes))
 
 same-length : tie.Need-same-length
 same-length c = search needs
@@ -89,7 +89,7 @@ returns-3 : tie.Need-returns-3
 returns-3 c =
     let yes = c .before .before in
     let stages = yes .before .before .before in
-    let table = table-is (laid yes) _ _ (stages .stages-in-place .ensures .1 (yes .if4 .taken)) in
+    let table = table-is (laid yes) _ _ (stages .fields-in-place .ensures .1 (yes .if4 .taken)) in
     (c .states-no .ensures ∙ sym (then-states (laid yes)), λ _. table)
 
 same-length-2 : tie.Need-same-length-2
@@ -100,7 +100,7 @@ returns-4 c =
     let stages = c .before .before .before in
     let n = counted-of stages in
     let size = sized-of (headed-of n) in
-    let bad = sym (stages .stages-in-place .ensures .0) ∙ c .if4 .left in
+    let bad = sym (stages .fields-in-place .ensures .0) ∙ c .if4 .left in
     (no-4 _ (size .before .if1 .left) (size .if2 .left) (headed (headed-of n)) _ (counted n) bad, λ z. absurd (omega arith))
 
 returns-5 : tie.Need-returns-5
@@ -117,8 +117,8 @@ first-no-spec =
     returns-2
     head-in-place-requires
     get16-requires
-    place-requires
-    stages-in-place-requires
+    word-to-index-requires
+    fields-in-place-requires
     states-no-requires
     same-length
     returns-3

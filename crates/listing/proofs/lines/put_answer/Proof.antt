@@ -1,3 +1,4 @@
+-- A line of code put into an arm of the `match` lengthens the answer at that arm's end by a `.before`.
 use native.Mathlib.Omega.{arith}
 use borrow.Author.Needs.{needs}
 use Rattle.listing.proofs.lines.put_answer.Statement.{statement}
@@ -40,25 +41,37 @@ same-length : tie.Need-same-length
 same-length c = search needs
 
 returns : tie.Need-returns
-returns c = (rw (c .before .before .before .before .before .o .given .1) (c .before .before .put-refused .ensures .0), omega (arith, c .before .before .put-refused .ensures .1))
+returns c =
+    let put = c .before .before in
+    let (text, end) = put .put-refused .ensures in
+    (rw (put .before .before .before .o .given .1) text, omega (arith, end))
 
 same-length-2 : tie.Need-same-length-2
 same-length-2 c = search needs
 
 returns-2 : tie.Need-returns-2
-returns-2 c = (rw (c .before .before .before .before .before .enum-told .given .1) (c .before .before .put-figures .ensures .0), omega (arith, c .before .before .put-figures .ensures .1))
+returns-2 c =
+    let put = c .before .before in
+    let (text, end) = put .put-figures .ensures in
+    (rw (put .before .before .before .enum-told .given .1) text, omega (arith, end))
 
 same-length-3 : tie.Need-same-length-3
 same-length-3 c = search needs
 
 returns-3 : tie.Need-returns-3
-returns-3 c = (rw (c .before .before .before .before .before .enum-told2 .given .1) (c .before .before .put-figures2 .ensures .0), omega (arith, c .before .before .put-figures2 .ensures .1))
+returns-3 c =
+    let put = c .before .before in
+    let (text, end) = put .put-figures2 .ensures in
+    (rw (put .before .before .before .enum-told2 .given .1) text, omega (arith, end))
 
 same-length-4 : tie.Need-same-length-4
 same-length-4 c = search needs
 
 returns-4 : tie.Need-returns-4
-returns-4 c = (rw (c .before .before .before .before .before .enum-told3 .given .1) (c .before .before .put-figures3 .ensures .0), omega (arith, c .before .before .put-figures3 .ensures .1))
+returns-4 c =
+    let put = c .before .before in
+    let (text, end) = put .put-figures3 .ensures in
+    (rw (put .before .before .before .enum-told3 .given .1) text, omega (arith, end))
 
 pub put-answer-spec : {M : Type 1} → statement M
 put-answer-spec =

@@ -1,6 +1,8 @@
+-- A line of code put between two pieces of the line lengthens the answer at the end by a `.before`, where the later piece leads back to the
+-- earlier.
 use native.Mathlib.Omega.{arith}
-use Rattle.listing.proofs.Writing.{wrote-behind}
 use borrow.Author.Needs.{needs}
+use Rattle.listing.proofs.Writing.{wrote-behind}
 use Rattle.listing.proofs.lines.put_figures.Statement.{statement}
 use Rattle.listing.proofs.lines.put_figures.Tie as tie
 
@@ -29,7 +31,16 @@ same-length : tie.Need-same-length
 same-length c = search needs
 
 returns : tie.Need-returns
-returns c = (wrote-behind (c .before .before .before .before .before .before .before .before .before .before .before .before .before .before .before .before .before .put-field .ensures .0) (wrote-behind (c .before .before .before .before .before .before .before .before .before .before .before .before .put-field2 .ensures .0) (wrote-behind (c .before .before .before .before .before .before .before .put-field3 .ensures .0) (c .before .before .put-word .ensures))), omega (arith, c .before .before .before .before .before .before .before .before .before .before .before .before .before .before .before .before .before .put-field .ensures .1, c .before .before .before .before .before .before .before .before .before .before .before .before .put-field2 .ensures .1, c .before .before .before .before .before .before .before .put-field3 .ensures .1, c .before .before .put-word .ensures .behind))
+returns c =
+    let end = c .before .before in
+    let raises = end .before .before .before .before .before in
+    let passes = raises .before .before .before .before .before in
+    let price = passes .before .before .before .before .before in
+    let (price-is, price-end) = price .put-field .ensures in
+    let (passes-is, passes-end) = passes .put-field2 .ensures in
+    let (raises-is, raises-end) = raises .put-field3 .ensures in
+    let text = wrote-behind price-is (wrote-behind passes-is (wrote-behind raises-is (end .put-word .ensures))) in
+    (text, omega (arith, price-end, passes-end, raises-end, end .put-word .ensures .behind))
 
 pub put-figures-spec : {M : Type 1} → statement M
 put-figures-spec =

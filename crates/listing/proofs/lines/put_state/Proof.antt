@@ -1,7 +1,9 @@
+-- A line of code put between two pieces of the line lengthens the answer at the end by a `.before`, where the later piece leads back to the
+-- earlier.
 use mathlib.Core.Path.{sym, _∙_}
 use native.Mathlib.Omega.{arith}
-use Rattle.listing.proofs.Writing.{wrote-behind}
 use borrow.Author.Needs.{needs}
+use Rattle.listing.proofs.Writing.{wrote-behind}
 use Rattle.listing.proofs.lines.put_state.Statement.{statement}
 use Rattle.listing.proofs.lines.put_state.Tie as tie
 
@@ -20,8 +22,8 @@ slice-aggregate-put-field-2 c = search needs
 value-at-requires : tie.Need-value-at-requires
 value-at-requires c κs = search needs
 
-long-requires : tie.Need-long-requires
-long-requires c κs = search needs
+word-to-long-requires : tie.Need-word-to-long-requires
+word-to-long-requires c κs = search needs
 
 put-field-requires-2 : tie.Need-put-field-requires-2
 put-field-requires-2 c κs = search needs
@@ -36,7 +38,18 @@ same-length : tie.Need-same-length
 same-length c = search needs
 
 returns : tie.Need-returns
-returns c = (rw (sym (c .before .before .before .before .before .before .before .before .long .ensures .0 ∙ c .before .before .before .before .before .before .before .before .before .value-at .ensures)) (wrote-behind (c .before .before .before .before .before .before .before .before .before .before .before .before .before .before .before .before .before .before .put-field .ensures .0) (wrote-behind (c .before .before .before .before .before .before .before .before .before .before .before .before .before .before .put-choice .ensures .0) (wrote-behind (c .before .before .before .before .before .before .before .put-field2 .ensures .0) (c .before .before .put-word .ensures)))), omega (arith, c .before .before .before .before .before .before .before .before .before .before .before .before .before .before .before .before .before .before .put-field .ensures .1, c .before .before .before .before .before .before .before .before .before .before .before .before .before .before .put-choice .ensures .1, c .before .before .before .before .before .before .before .put-field2 .ensures .1, c .before .before .put-word .ensures .behind))
+returns c =
+    let end = c .before .before in
+    let value = end .before .before .before .before .before in
+    let choice = value .before .before .before .before .before .before .before in
+    let number = choice .before .before .before .before in
+    let read = value .before .word-to-long .ensures .0 ∙ value .before .before .value-at .ensures in
+    let (number-is, number-end) = number .put-field .ensures in
+    let (choice-is, choice-end) = choice .put-choice .ensures in
+    let (value-is, value-end) = value .put-field2 .ensures in (
+      rw (sym read) (wrote-behind number-is (wrote-behind choice-is (wrote-behind value-is (end .put-word .ensures)))),
+      omega (arith, number-end, choice-end, value-end, end .put-word .ensures .behind),
+    )
 
 pub put-state-spec : {M : Type 1} → statement M
 put-state-spec =
@@ -47,7 +60,7 @@ put-state-spec =
     put-choice-requires
     slice-aggregate-put-field-2
     value-at-requires
-    long-requires
+    word-to-long-requires
     put-field-requires-2
     slice-aggregate-put-word
     put-word-requires

@@ -1,9 +1,18 @@
+-- A line of code put into the first arm lengthens `told-of` by a `.before`, or the answer at that arm's end; one before the `match`
+-- lengthens `start-of`.
 use mathlib.Core.Path.{refl}
 use native.Mathlib.Omega.{arith}
-use Rattle.listing.proofs.Writing.{wrote-none}
 use borrow.Author.Needs.{needs}
+use Rattle.listing.proofs.Writing.{wrote-none}
 use Rattle.listing.proofs.plan.put_plan.Statement.{statement}
 use Rattle.listing.proofs.plan.put_plan.Tie as tie
+
+-- the call, from the first arm, and that arm, from the arguments of `put_reached`
+abbrev start-of : tie.After-enum-told → tie.Start
+start-of c = c .before .before .before .before .before
+
+abbrev told-of : tie.After-put-reached-arg → tie.After-enum-told
+told-of c = c .before .before
 
 enum-told : tie.Need-enum-told
 enum-told c = search needs
@@ -12,7 +21,10 @@ slice-aggregate-put-reached : tie.Need-slice-aggregate-put-reached
 slice-aggregate-put-reached c = search needs
 
 put-reached-requires : tie.Need-put-reached-requires
-put-reached-requires c κs = (c .before .before .before .before .before .before .before .pre .0 (c .before .before .enum-told .given .1), (refl, c .before .before .before .before .before .before .before .pre .1))
+put-reached-requires c κs =
+    let arm = told-of c in
+    let pre = start-of arm .pre in
+    (pre .0 (arm .enum-told .given .1), (refl, pre .1))
 
 enum-told-2 : tie.Need-enum-told-2
 enum-told-2 c = search needs
@@ -27,7 +39,8 @@ same-length : tie.Need-same-length
 same-length c = search needs
 
 returns : tie.Need-returns
-returns c = rw (c .before .before .before .before .before .before .enum-told .given .1) (c .before .before .before .put-reached .ensures)
+returns c =
+    let put = c .before .before .before in rw (told-of (put .before) .enum-told .given .1) (put .put-reached .ensures)
 
 returns-2 : tie.Need-returns-2
 returns-2 c = rw (c .enum-told2 .given .1) (wrote-none _ _ (omega arith))

@@ -1,68 +1,86 @@
+-- The measure is the number that is written: the call of itself has a tenth of it. A line of code put before that call lengthens `start-of`
+-- by a `.before`, and one behind it `front-of` or the answers behind the last digit.
+use Prim.Native.Nat.{ℕ, _<_}
 use native.Mathlib.Omega.{arith}
 use borrow.Author.Needs.{needs}
-use Rattle.listing.proofs.Writing.{one-room, more-room, last-room, one-digit, more-digits}
-use Prim.Native.Nat.{ℕ, _<_}
 use borrow.Fn.Kinds.{In}
 use borrow.Fn.PlainCycle.{Measures, is, falls, and}
-use Rattle.listing.proofs.text.put_number.Reads as put-number
-use Rattle.listing.proofs.text.put_number.Kinds as put-number-kinds
-use Rattle.listing.proofs.text.+put_number.Lts-put_number as put-number-lts
+use Rattle.listing.proofs.Writing.{one-room, more-room, last-room, one-digit, more-digits}
 use Rattle.listing.proofs.text.last_digit.Reads as last-digit-reads
 use Rattle.listing.proofs.text.put_byte.Reads as put-byte-reads
+use Rattle.listing.proofs.text.put_number.Reads as reads
+use Rattle.listing.proofs.text.put_number.Kinds as kinds
+use Rattle.listing.proofs.text.+put_number.Lts-put_number as lts
 use Rattle.listing.proofs.text.+put_number.{statement}
 use Rattle.listing.proofs.text.+put_number.Tie.{close}
 
-abbrev μ-put-number : Measures 1 put-number-kinds.ps ℕ
+abbrev μ-put-number : Measures 1 kinds.ps ℕ
 μ-put-number κs a = a .1 .1 .0
 
-abbrev put-number-at : ℕ → In 1 put-number-kinds.ps
-put-number-at t =
-    and 1 put-number-kinds.ps (is 1 put-number-kinds.ps μ-put-number t) put-number.Pre
+module _ (t : ℕ) where
+  abbrev given : In 1 kinds.ps
+  given = and 1 kinds.ps (is 1 kinds.ps μ-put-number t) reads.Pre
 
-abbrev put-number-below : ℕ → In 1 put-number-kinds.ps
-put-number-below t =
-    and 1 put-number-kinds.ps (falls 1 put-number-kinds.ps _<_ μ-put-number t) put-number.Pre
+  abbrev below : In 1 kinds.ps
+  below = and 1 kinds.ps (falls 1 kinds.ps _<_ μ-put-number t) reads.Pre
 
-abbrev calls : ℕ → put-number-lts.Claims
-calls t = (last-digit-reads.Asked, last-digit-reads.Learnt, put-byte-reads.Asked, put-byte-reads.Learnt, put-number-below t, put-number.Post)
+  abbrev calls : lts.Claims
+  calls = (last-digit-reads.Asked, last-digit-reads.Learnt, put-byte-reads.Asked, put-byte-reads.Learnt, below, reads.Post)
 
-put-number-last-digit-requires : (t : ℕ) → put-number-lts.Need-last-digit-requires (calls t) (put-number-at t) put-number.Post
-put-number-last-digit-requires t c κs = search needs
+  -- the call, from where the digits before the last are written; that place, from the last digit
+  abbrev start-of : lts.After-put-number calls given reads.Post → lts.Start calls given reads.Post
+  start-of c = c .before .before .before .before
 
-put-number-put-byte-requires : (t : ℕ) → put-number-lts.Need-put-byte-requires (calls t) (put-number-at t) put-number.Post
-put-number-put-byte-requires t c κs = one-room _ _ _ (c .before .before .before .before .pre .1) (c .before .before .if1 .taken)
+  abbrev front-of : lts.After-last-digit2 calls given reads.Post → lts.After-put-number calls given reads.Post
+  front-of c = c .before .before .before .before
 
-put-number-put-number-requires : (t : ℕ) → put-number-lts.Need-put-number-requires (calls t) (put-number-at t) put-number.Post
-put-number-put-number-requires t c κs = (omega (arith, c .before .before .before .pre .0), more-room _ _ _ (c .before .before .before .pre .1) (c .before .if1 .left))
+  last-digit-requires : lts.Need-last-digit-requires calls given reads.Post
+  last-digit-requires c κs = search needs
 
-put-number-last-digit-requires-2 : (t : ℕ) → put-number-lts.Need-last-digit-requires-2 (calls t) (put-number-at t) put-number.Post
-put-number-last-digit-requires-2 t c κs = search needs
+  put-byte-requires : lts.Need-put-byte-requires calls given reads.Post
+  put-byte-requires c κs = one-room _ _ _ (c .before .before .before .before .pre .1) (c .before .before .if1 .taken)
 
-put-number-put-byte-requires-2 : (t : ℕ) → put-number-lts.Need-put-byte-requires-2 (calls t) (put-number-at t) put-number.Post
-put-number-put-byte-requires-2 t c κs = last-room _ (c .before .before .before .before .put-number .ensures) (c .before .before .before .before .before .before .before .before .pre .1) (c .before .before .before .before .before .before .if1 .left)
+  put-number-requires : lts.Need-put-number-requires calls given reads.Post
+  put-number-requires c κs =
+      let (measure, room) = c .before .before .before .pre in
+      (omega (arith, measure), more-room _ _ _ room (c .before .if1 .left))
 
-put-number-same-length : (t : ℕ) → put-number-lts.Need-same-length (calls t) (put-number-at t) put-number.Post
-put-number-same-length t c = search needs
+  last-digit-requires-2 : lts.Need-last-digit-requires-2 calls given reads.Post
+  last-digit-requires-2 c κs = search needs
 
-put-number-returns : (t : ℕ) → put-number-lts.Need-returns (calls t) (put-number-at t) put-number.Post
-put-number-returns t c = one-digit _ _ _ _ _ _ (c .before .before .before .last-digit .ensures) (c .before .before .put-byte .ensures) (c .before .before .before .before .before .if1 .taken)
+  put-byte-requires-2 : lts.Need-put-byte-requires-2 calls given reads.Post
+  put-byte-requires-2 c κs =
+      let front = front-of c in
+      last-room _ (front .put-number .ensures) (start-of front .pre .1) (front .before .before .if1 .left)
 
-put-number-same-length-2 : (t : ℕ) → put-number-lts.Need-same-length-2 (calls t) (put-number-at t) put-number.Post
-put-number-same-length-2 t c = search needs
+  same-length : lts.Need-same-length calls given reads.Post
+  same-length c = search needs
 
-put-number-returns-2 : (t : ℕ) → put-number-lts.Need-returns-2 (calls t) (put-number-at t) put-number.Post
-put-number-returns-2 t c = more-digits _ _ _ _ _ _ (c .before .before .before .last-digit2 .ensures) _ _ (c .before .before .before .before .before .before .before .put-number .ensures) (c .before .before .put-byte2 .ensures) (c .before .before .before .before .before .before .before .before .before .if1 .left)
+  returns : lts.Need-returns calls given reads.Post
+  returns c =
+      let put = c .before .before in
+      one-digit _ _ _ _ _ _ (put .before .last-digit .ensures) (put .put-byte .ensures) (put .before .before .before .if1 .taken)
+
+  same-length-2 : lts.Need-same-length-2 calls given reads.Post
+  same-length-2 c = search needs
+
+  returns-2 : lts.Need-returns-2 calls given reads.Post
+  returns-2 c =
+      let put = c .before .before in
+      let front = front-of (put .before) in
+      let digits = more-digits _ _ _ _ _ _ (put .before .last-digit2 .ensures) _ _ (front .put-number .ensures) in
+      digits (put .put-byte2 .ensures) (front .before .before .if1 .left)
 
 pub +put-number-spec : {M : Type 1} → statement M
-+put-number-spec = close μ-put-number λ t. put-number-lts.spec (calls t)
-    (put-number-at t)
-    put-number.Post
-    (put-number-last-digit-requires t)
-    (put-number-put-byte-requires t)
-    (put-number-put-number-requires t)
-    (put-number-last-digit-requires-2 t)
-    (put-number-put-byte-requires-2 t)
-    (put-number-same-length t)
-    (put-number-returns t)
-    (put-number-same-length-2 t)
-    (put-number-returns-2 t)
++put-number-spec = close μ-put-number λ t. lts.spec (calls t)
+    (given t)
+    reads.Post
+    (last-digit-requires t)
+    (put-byte-requires t)
+    (put-number-requires t)
+    (last-digit-requires-2 t)
+    (put-byte-requires-2 t)
+    (same-length t)
+    (returns t)
+    (same-length-2 t)
+    (returns-2 t)

@@ -1,6 +1,8 @@
+-- The loop's invariant: the states before s pass. A line of code put into the loop lengthens `loop-of` by a `.before`, or the answers
+-- behind the question; one before the loop lengthens `start-of`.
 use Prim.Native.Nat.{_-_, _≤_}
 use mathlib.Core.Path.{_≡_, refl, sym, _∙_}
-use mathlib.Core.Bool.{true}
+use mathlib.Core.Bool.{Bool, true, false}
 use native.Mathlib.Omega.{arith}
 use borrow.Author.Needs.{needs}
 use Rattle.model.specs.Tests.{every}
@@ -16,6 +18,18 @@ Inv-loop sheet table n question s₀ s = (s ≤ n) × (every s (passesAt questio
 abbrev μ-loop : tie.MeasureT-loop
 μ-loop sheet table n question s₀ s = n - s
 
+-- the call, from the loop, and the loop, from the answer of state s
+abbrev start-of : tie.At-loop Inv-loop μ-loop → tie.Start Inv-loop μ-loop
+start-of c = c .before .before .before
+
+abbrev loop-of : tie.After-passes Inv-loop μ-loop → tie.At-loop Inv-loop μ-loop
+loop-of c = c .before .before
+
+-- that answer
+passed : (c : tie.After-passes Inv-loop μ-loop) (b : Bool) → c .passes .result ≡ b → let a = start-of (loop-of c) .args in
+    passesAt (a .question) (problemOf (a .sheet .now)) (cellsOf (a .sheet .now)) (loop-of c .loop .s) ≡ b
+passed c b e = sym (c .passes .ensures) ∙ e
+
 loop-holds : tie.Need-loop-holds Inv-loop μ-loop
 unfolding every
 loop-holds c =
@@ -23,8 +37,7 @@ loop-holds c =
 
 passes-requires : tie.Need-passes-requires Inv-loop μ-loop
 passes-requires c κs =
-    let pre = c .before .before .before .before .pre in
-    (record { sheet = pre .0 .1 .sheet; below = omega (arith, pre .1 .0) }, pre .1)
+    let pre = start-of (c .before) .pre in (record { sheet = pre .0 .1 .sheet; below = omega (arith, pre .1 .0) }, pre .1)
 
 add-s : tie.Need-add-s Inv-loop μ-loop
 add-s c = search needs
@@ -34,15 +47,16 @@ loop-less c = search needs
 
 loop-again : tie.Need-loop-again Inv-loop μ-loop
 loop-again c =
-    (omega arith, every-more (c .before .before .before .loop .s) _ (c .before .before .before .loop .inv .1) (sym (c .before .passes .ensures) ∙ c .if1 .taken))
+    let L = loop-of (c .before) .loop in (omega arith, every-more (L .s) _ (L .inv .1) (passed (c .before) true (c .if1 .taken)))
 
 returns : tie.Need-returns Inv-loop μ-loop
 returns c =
-    stepped-out _ _ _ refl (c .before .before .before .loop .s) (c .before .before .loop-test .taken) (sym (c .before .passes .ensures) ∙ c .if1 .left)
+    let s = loop-of (c .before) .loop .s in
+    stepped-out _ _ _ refl s (c .before .before .loop-test .taken) (passed (c .before) false (c .if1 .left))
 
 returns-2 : tie.Need-returns-2 Inv-loop μ-loop
 returns-2 c =
-    all-stepped _ _ _ refl (c .before .loop .s) (c .before .loop .inv .1) (c .before .loop .inv .0) (c .loop-test .left)
+    let L = c .before .loop in all-stepped _ _ _ refl (L .s) (L .inv .1) (L .inv .0) (c .loop-test .left)
 
 pub all-pass-spec : {M : Type 1} → statement M
 all-pass-spec =

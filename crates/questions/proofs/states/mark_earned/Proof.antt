@@ -13,7 +13,7 @@ use Rattle.questions.proofs.states.mark_earned.Tie as tie
 abbrev start-of : tie.After-value-at → tie.Start
 start-of c = c .before .before .before
 
-abbrev else-of : tie.After-place → tie.Else1
+abbrev else-of : tie.After-word-to-index → tie.Else1
 else-of c = c .before .before .before
 
 abbrev value-of : tie.Else1 → tie.After-value-at
@@ -27,9 +27,9 @@ decided : (c : tie.Else1) → let a = start-of (value-of c) .args in Decision (a
 decided c = decision-from (start-of (value-of c) .pre .0) _ (c .before .is-terminal .ensures) (c .if1 .left)
 
 -- the number of its chosen action
-chosen : (c : tie.After-place) → let a = start-of (value-of (else-of c)) .args in
-    c .place .result ≡ cellOf (cellsOf (a .sheet .now)) (a .state) .chosen
-chosen c = c .place .ensures .0 ∙ c .before .wide .ensures .0 ∙ c .before .before .chosen-at .ensures
+chosen : (c : tie.After-word-to-index) → let a = start-of (value-of (else-of c)) .args in
+    c .word-to-index .result ≡ cellOf (cellsOf (a .sheet .now)) (a .state) .chosen
+chosen c = c .word-to-index .ensures .0 ∙ c .before .byte-to-word .ensures .0 ∙ c .before .before .chosen-at .ensures
 
 -- that action can be priced
 priced : (c : tie.After-action-at) → let a = start-of (value-of (else-of (c .before))) .args in
@@ -55,11 +55,11 @@ returns c =
 chosen-at-requires : tie.Need-chosen-at-requires
 chosen-at-requires c κs = decided c
 
-wide-requires : tie.Need-wide-requires
-wide-requires c κs = search needs
+byte-to-word-requires : tie.Need-byte-to-word-requires
+byte-to-word-requires c κs = search needs
 
-place-requires : tie.Need-place-requires
-place-requires c κs = search needs
+word-to-index-requires : tie.Need-word-to-index-requires
+word-to-index-requires c κs = search needs
 
 action-at-requires : tie.Need-action-at-requires
 action-at-requires c κs =
@@ -98,8 +98,8 @@ mark-earned-spec =
     terminal-cost-requires
     returns
     chosen-at-requires
-    wide-requires
-    place-requires
+    byte-to-word-requires
+    word-to-index-requires
     action-at-requires
     price-requires
     all-solved-requires

@@ -1,9 +1,14 @@
+-- A line of code put before the `match` lengthens `start-of` by a `.before`, and so the answers of the other arms.
 use mathlib.Core.Path.{sym, _∙_}
 use borrow.Author.Needs.{needs}
 use Rattle.questions.specs.Put.{passesAt}
 use Rattle.questions.proofs.Putting.{bounds-ordered, marks-ordered, marks-chosen}
 use Rattle.questions.proofs.states.passes.Statement.{statement}
 use Rattle.questions.proofs.states.passes.Tie as tie
+
+-- the call, from the arm of question 8
+abbrev start-of : tie.After-enum-told4 → tie.Start
+start-of c = c .before .before .before .before
 
 enum-told : tie.Need-enum-told
 enum-told c = search needs
@@ -32,10 +37,11 @@ solved-at-requires c κs = search needs
 
 mark-earned-requires : tie.Need-mark-earned-requires
 mark-earned-requires c κs =
-    let e = c .before .before .enum-told4 .given .1 in
-    let pre = c .before .before .before .before .before .before .pre in
-    let chosen = marks-chosen _ _ _ (pre .1 .1) e _ (pre .0 .below) (sym (c .before .solved-at .ensures) ∙ c .if1 .taken) in
-    (pre .0, (marks-ordered _ _ _ (pre .1 .1) e, chosen))
+    let arm = c .before .before in
+    let is = arm .enum-told4 .given .1 in
+    let pre = start-of arm .pre in
+    let chosen = marks-chosen _ _ _ (pre .1 .1) is _ (pre .0 .below) (sym (c .before .solved-at .ensures) ∙ c .if1 .taken) in
+    (pre .0, (marks-ordered _ _ _ (pre .1 .1) is, chosen))
 
 returns : tie.Need-returns
 unfolding passesAt
@@ -45,7 +51,8 @@ returns c =
 returns-2 : tie.Need-returns-2
 unfolding passesAt
 returns-2 c =
-    rw (c .before .enum-told2 .given .1) (rw (c .before .before .before .before .before .pre .1 .0) at (c .in-order .ensures))
+    let arm = c .before in
+    rw (arm .enum-told2 .given .1) (rw (arm .before .before .before .before .pre .1 .0) at (c .in-order .ensures))
 
 returns-3 : tie.Need-returns-3
 unfolding passesAt
@@ -55,7 +62,9 @@ returns-3 c =
 returns-4 : tie.Need-returns-4
 unfolding passesAt
 returns-4 c =
-    rw (c .before .before .before .enum-told4 .given .1, sym (c .before .before .solved-at .ensures) ∙ c .before .if1 .taken) (c .mark-earned .ensures)
+    let solved = c .before .before in
+    let is = solved .before .enum-told4 .given .1 in
+    rw (is, sym (solved .solved-at .ensures) ∙ c .before .if1 .taken) (c .mark-earned .ensures)
 
 returns-5 : tie.Need-returns-5
 unfolding passesAt

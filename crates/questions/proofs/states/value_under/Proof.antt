@@ -1,6 +1,6 @@
--- The loop's invariant: action k stands at `at`, and those before it pass. A line of code put into the loop lengthens `loop-of` by a
--- `.before`, or the answers behind the price; one before the loop lengthens `start-of` or `else-of`.
-use Prim.Native.Nat.{_-_, _<_}
+-- The loop's invariant: some action k, or the end of them, stands at `at`, and those before it pass. A line of code put into the loop
+-- lengthens `loop-of` by a `.before`, or the answers behind the price; one before the loop lengthens `start-of` or `else-of`.
+use Prim.Native.Nat.{ℕ, _-_, _<_}
 use mathlib.Core.Path.{_≡_, refl}
 use mathlib.Core.Bool.{true}
 use native.Mathlib.Omega.{arith}
@@ -10,18 +10,18 @@ use Rattle.model.specs.Tests.{every}
 use Rattle.model.specs.Read.{problemOf, cellsOf}
 use Rattle.sheet.specs.Sheet.{Terminal, Decision}
 use Rattle.sheet.proofs.Laws.{actionsAt}
-use Rattle.questions.proofs.Stepping.{Along, few, along-begins, along-stands, along-ends, along-fits, along-next, along-priced}
+use Rattle.questions.proofs.Stepping.{Along, along-begins, along-stands, along-ends, along-fits, along-next, along-priced}
 use Rattle.questions.proofs.Stepping.{every-more, all-stepped, stepped-out, under-of, terminal-from, decision-from}
 use Rattle.questions.proofs.Stepping.{under-terminal, priceOver, price-over, price-under}
 use Rattle.questions.proofs.states.value_under.Statement.{statement}
 use Rattle.questions.proofs.states.value_under.Tie as tie
 
 abbrev Inv-loop : tie.InvT-loop
-Inv-loop sheet table state value at₀ k₀ at k =
-    Along sheet state k at × (every k (priceOver (problemOf sheet) (cellsOf sheet) state) ≡ true)
+Inv-loop sheet table state value at₀ at =
+    (k : ℕ) × Along sheet state k at × (every k (priceOver (problemOf sheet) (cellsOf sheet) state) ≡ true)
 
 abbrev μ-loop : tie.MeasureT-loop
-μ-loop sheet table state value at₀ k₀ at k = length (actionsAt (problemOf sheet) state) - k
+μ-loop sheet table state value at₀ at = length sheet - at
 
 -- the call, from where the value has been read; where the state is no terminal, from the loop; the loop, from an action that stands there
 abbrev start-of : tie.After-value-at Inv-loop μ-loop → tie.Start Inv-loop μ-loop
@@ -44,8 +44,8 @@ decided c = decision-from (start-of (c .before .before) .pre .0) _ (c .before .i
 
 -- action k is one of its actions
 stands : (c : tie.Then2 Inv-loop μ-loop) → let L = loop-of c in let a = start-of (else-of L .before .before) .args in
-    L .loop .k < length (actionsAt (problemOf (a .sheet .now)) (a .state))
-stands c = along-stands (decided (else-of (loop-of c))) (loop-of c .loop .inv .0) _ (c .before .action-here .ensures) (c .if2 .taken)
+    L .loop .inv .0 < length (actionsAt (problemOf (a .sheet .now)) (a .state))
+stands c = along-stands (decided (else-of (loop-of c))) (loop-of c .loop .inv .1) _ (c .before .action-here .ensures) (c .if2 .taken)
 
 value-at-requires : tie.Need-value-at-requires Inv-loop μ-loop
 value-at-requires c κs = search needs
@@ -65,7 +65,7 @@ first-action-requires c κs = decided c
 
 loop-holds : tie.Need-loop-holds Inv-loop μ-loop
 unfolding every
-loop-holds c = (along-begins (decided (c .before)) _ (c .first-action .ensures .0), refl)
+loop-holds c = (0, along-begins (decided (c .before)) _ (c .first-action .ensures .0), refl)
 
 action-here-requires : tie.Need-action-here-requires Inv-loop μ-loop
 action-here-requires c κs = search needs
@@ -73,7 +73,7 @@ action-here-requires c κs = search needs
 price-requires : tie.Need-price-requires Inv-loop μ-loop
 price-requires c κs =
     let L = loop-of c in
-    along-priced (decided (else-of L)) (L .loop .inv .0) (stands c) (start-of (else-of L .before .before) .pre .1)
+    along-priced (decided (else-of L)) (L .loop .inv .1) (stands c) (start-of (else-of L .before .before) .pre .1)
 
 returns-2 : tie.Need-returns-2 Inv-loop μ-loop
 returns-2 c =
@@ -81,21 +81,16 @@ returns-2 c =
     let L = loop-of here in
     let d = decided (else-of L) in
     let value = else-of L .before .before .value-at .ensures in
-    let over = price-over d (L .loop .inv .0) (stands here) value (c .before .before .price .ensures .0) (c .if3 .taken) in
-    stepped-out _ _ _ (under-of d) (L .loop .k) (stands here) over
+    let over = price-over d (L .loop .inv .1) (stands here) value (c .before .before .price .ensures .0) (c .if3 .taken) in
+    stepped-out _ _ _ (under-of d) (L .loop .inv .0) (stands here) over
 
 next-action-requires : tie.Need-next-action-requires Inv-loop μ-loop
 next-action-requires c κs =
     let here = c .before .before .before in
-    along-fits (decided (else-of (loop-of here))) (loop-of here .loop .inv .0) (stands here)
-
-add-k : tie.Need-add-k Inv-loop μ-loop
-add-k c =
-    let L = loop-of (c .before .before .before .before) in omega (arith, L .loop .inv .0 .upto, few (decided (else-of L)))
+    along-fits (decided (else-of (loop-of here))) (loop-of here .loop .inv .1) (stands here)
 
 loop-less : tie.Need-loop-less Inv-loop μ-loop
-loop-less c =
-    let here = c .before .before .before .before in omega (arith, stands here)
+loop-less c = omega (arith, c .next-action .ensures)
 
 loop-again : tie.Need-loop-again Inv-loop μ-loop
 loop-again c =
@@ -103,15 +98,15 @@ loop-again c =
     let L = loop-of here in
     let d = decided (else-of L) in
     let value = else-of L .before .before .value-at .ensures in
-    let under = price-under d (L .loop .inv .0) (stands here) value (c .before .before .before .price .ensures .0) (c .before .if3 .left) in
-    (along-next d (L .loop .inv .0) (stands here) _ (c .next-action .ensures .0), every-more (L .loop .k) _ (L .loop .inv .1) under)
+    let under = price-under d (L .loop .inv .1) (stands here) value (c .before .before .before .price .ensures .0) (c .before .if3 .left) in
+    (_, along-next d (L .loop .inv .1) (stands here) _ (c .next-action .ensures .0), every-more (L .loop .inv .0) _ (L .loop .inv .2) under)
 
 returns-3 : tie.Need-returns-3 Inv-loop μ-loop
 returns-3 c =
     let L = c .before .before in
     let d = decided (else-of L) in
-    let ends = along-ends d (L .loop .inv .0) _ (c .before .action-here .ensures) (c .if2 .left) in
-    all-stepped _ _ _ (under-of d) (L .loop .k) (L .loop .inv .1) (L .loop .inv .0 .upto) ends
+    let ends = along-ends d (L .loop .inv .1) _ (c .before .action-here .ensures) (c .if2 .left) in
+    all-stepped _ _ _ (under-of d) (L .loop .inv .0) (L .loop .inv .2) (L .loop .inv .1 .upto) ends
 
 pub value-under-spec : {M : Type 1} → statement M
 value-under-spec =
@@ -129,7 +124,6 @@ value-under-spec =
     price-requires
     returns-2
     next-action-requires
-    add-k
     loop-less
     loop-again
     returns-3)

@@ -1,4 +1,4 @@
--- The fresh price where it is the least, else all are priced.
+-- The fresh price where it is the least, else all are priced. A call put before the test lengthens `pre`.
 use native.Mathlib.Omega.{arith}
 use borrow.Author.Needs.{needs}
 use Rattle.sheet.proofs.Laws.{few-actions}

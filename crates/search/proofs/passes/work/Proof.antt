@@ -24,6 +24,9 @@ start-of c = c .before .before .before
 abbrev loop-of : tie.After-visit Inv-loop μ-loop → tie.At-loop Inv-loop μ-loop
 loop-of c = c .before .before
 
+abbrev visit-of : tie.After-slice-known2 Inv-loop μ-loop → tie.After-visit Inv-loop μ-loop
+visit-of c = c .before .before
+
 -- one more pass
 passed-at : (c : tie.After-visit Inv-loop μ-loop) → let l = loop-of c in let a = start-of l .args in
     Passed (a .table .now) (problemOf (a .sheet .now)) (a .budget) (a .sheet .now) (l .loop .sheet) (l .loop .begun) (l .loop .raises)
@@ -51,29 +54,29 @@ enum-told c = search needs
 
 same-length : tie.Need-same-length Inv-loop μ-loop
 same-length c =
-    let v = c .before .before .before .before in sheet-length (start-of (loop-of v) .pre .0 .sheet) (passed-at v .visited .sheet)
+    let v = visit-of (c .before .before) in sheet-length (start-of (loop-of v) .pre .0 .sheet) (passed-at v .visited .sheet)
 
 returns : tie.Need-returns Inv-loop μ-loop
-returns c = succeeds (passed-at (c .before .before .before .before)) (c .enum-told .given .1)
+returns c = succeeds (passed-at (visit-of (c .before .before))) (c .enum-told .given .1)
 
 enum-told-2 : tie.Need-enum-told-2 Inv-loop μ-loop
 enum-told-2 c = search needs
 
 loop-less : tie.Need-loop-less Inv-loop μ-loop
-loop-less c = falls (passed-at (c .before .before .before .before)) (c .enum-told2 .given .1)
+loop-less c = falls (passed-at (visit-of (c .before .before))) (c .enum-told2 .given .1)
 
 loop-again : tie.Need-loop-again Inv-loop μ-loop
-loop-again c = fails (passed-at (c .before .before .before .before)) (c .enum-told2 .given .1)
+loop-again c = fails (passed-at (visit-of (c .before .before))) (c .enum-told2 .given .1)
 
 enum-told-3 : tie.Need-enum-told-3 Inv-loop μ-loop
 enum-told-3 c = search needs
 
 same-length-2 : tie.Need-same-length-2 Inv-loop μ-loop
 same-length-2 c =
-    let v = c .before .before .before .before in sheet-length (start-of (loop-of v) .pre .0 .sheet) (passed-at v .visited .sheet)
+    let v = visit-of (c .before .before) in sheet-length (start-of (loop-of v) .pre .0 .sheet) (passed-at v .visited .sheet)
 
 returns-2 : tie.Need-returns-2 Inv-loop μ-loop
-returns-2 c = halts (passed-at (c .before .before .before .before)) (c .enum-told3 .given .1)
+returns-2 c = halts (passed-at (visit-of (c .before .before))) (c .enum-told3 .given .1)
 
 pub work-spec : {M : Type 1} → statement M
 work-spec =

@@ -1,4 +1,4 @@
--- A raise, a halt, or the same value or a smaller one.
+-- A raise, a halt, or the same value or a smaller one. A call put behind a store lengthens the answer at its return.
 use native.Mathlib.Omega.{arith}
 use borrow.Author.Needs.{needs}
 use Rattle.search.proofs.Updates.{did-raise, did-halt, did-store}

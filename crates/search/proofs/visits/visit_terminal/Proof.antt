@@ -1,30 +1,38 @@
--- The update, and then the mark. A line of code put before the update lengthens `place-of` or `start-of` by a `.before`.
+-- The update, and then the mark. A line of code put before the update lengthens `value-of`, `place-of` or `start-of` by a `.before`, one
+-- put behind it `update-of`.
 use borrow.Author.Needs.{needs}
 use Rattle.model.specs.Read.{problemOf}
+use Rattle.sheet.specs.Sheet.{Terminal}
 use Rattle.search.specs.Opens.{ValueAt}
 use Rattle.search.proofs.Updates.{settles, no-room}
 use Rattle.search.proofs.visits.visit_terminal.Statement.{statement}
 use Rattle.search.proofs.visits.visit_terminal.Tie as tie
 
--- the places on the way to the update
-abbrev place-of : tie.After-update → tie.After-value-place
-place-of c = c .before .before .before .before .before .before
+-- the places on the way to the update, and the update, from the test behind it
+abbrev start-of : tie.After-value-place → tie.Start
+start-of c = c .before .before .before .before
 
-abbrev start-of : tie.After-update → tie.Start
-start-of c = place-of c .before .before .before .before
+abbrev place-of : tie.After-value-at → tie.After-value-place
+place-of c = c .before .before
+
+abbrev value-of : tie.After-update → tie.After-value-at
+value-of c = c .before .before .before .before
+
+abbrev update-of : tie.After-slice-known2 → tie.After-update
+update-of c = c .before .before
+
+-- what the update asks of the state
+terminal-at : (c : tie.After-update) →
+    let a = start-of (place-of (value-of c)) .args in Terminal (a .sheet .now) (a .table .now) (a .state)
+terminal-at c = start-of (place-of (value-of c)) .pre
 
 -- the value that is updated
-value-at : (c : tie.After-update) → let a = start-of c .args in
-    ValueAt (a .sheet .now) (a .table .now) (problemOf (a .sheet .now)) (a .state) (place-of c .value-place .result)
-    (c .before .before .before .before .value-at .result)
+value-at : (c : tie.After-update) → let v = value-of c in let a = start-of (place-of v) .args in
+    ValueAt (a .sheet .now) (a .table .now) (problemOf (a .sheet .now)) (a .state) (place-of v .value-place .result) (v .value-at .result)
 value-at c =
-    let w = start-of c .pre .within in
-    record {
-      sheet = w .sheet;
-      below = w .below;
-      place = place-of c .value-place .ensures .0;
-      is = c .before .before .before .before .value-at .ensures;
-    }
+    let v = value-of c in
+    let w = terminal-at c .within in
+    record { sheet = w .sheet; below = w .below; place = place-of v .value-place .ensures .0; is = v .value-at .ensures }
 
 value-place-requires : tie.Need-value-place-requires
 value-place-requires c κs = search needs
@@ -52,20 +60,23 @@ same-length c = search needs
 
 returns : tie.Need-returns
 returns c =
-    let u = c .before .before .before .before .before .before .before .before in
+    let mark = c .before .before .before in
+    let raised = mark .before .before in
+    let u = update-of (raised .before) in
     let g = value-at u in
-    settles g (start-of u .pre .tag) _ _ (u .before .before .terminal-cost .ensures) (u .update .ensures _ _ _ g)
-    (c .before .before .before .before .before .if1 .taken) (c .before .before .before .mark-terminal .ensures) (c .ended .ensures)
+    settles g (terminal-at u .tag) _ _ (u .before .before .terminal-cost .ensures) (u .update .ensures _ _ _ g)
+    (raised .if1 .taken) (mark .mark-terminal .ensures) (c .ended .ensures)
 
 same-length-2 : tie.Need-same-length-2
 same-length-2 c = search needs
 
 returns-2 : tie.Need-returns-2
 returns-2 c =
-    let u = c .before .before .before .before in
+    let halted = c .before in
+    let u = update-of (halted .before) in
     let g = value-at u in
-    no-room g (start-of u .pre .tag) _ _ (u .before .before .terminal-cost .ensures) (u .update .ensures _ _ _ g) (c .before .if1 .left)
-    (c .ended2 .ensures)
+    no-room g (terminal-at u .tag) _ _ (u .before .before .terminal-cost .ensures) (u .update .ensures _ _ _ g)
+    (halted .if1 .left) (c .ended2 .ensures)
 
 pub visit-terminal-spec : {M : Type 1} → statement M
 visit-terminal-spec =

@@ -1,5 +1,5 @@
 use borrow.Author.Needs.{needs}
-use Rattle.model.specs.QValue.{ceiling}
+use Rattle.model.specs.Limits.{ceiling}
 use Rattle.sheet.proofs.pricing.cut_off.Statement.{statement}
 use Rattle.sheet.proofs.pricing.cut_off.Tie as tie
 

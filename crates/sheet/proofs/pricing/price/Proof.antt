@@ -9,7 +9,7 @@ use borrow.Author.Needs.{needs}
 use lib.ListN.{length, drop}
 use Rattle.model.specs.Problem.{valueOf}
 use Rattle.model.specs.Read.{problemOf, cellsOf, actionRead}
-use Rattle.model.specs.QValue.{joined}
+use Rattle.model.specs.Limits.{maxSuccessors}
 use Rattle.sheet.proofs.Joining.{of-kind-fits, Sums, sums-none, sums-more, sums-all}
 use Rattle.sheet.proofs.Laws.{action-inside, some-successor, head-room}
 use Rattle.sheet.proofs.pricing.price.Statement.{statement}
@@ -35,18 +35,18 @@ abbrev start-of : tie.At-loop Inv-loop μ-loop → tie.Start Inv-loop μ-loop
 start-of c = c .before .before .before .before
 
 -- an action has at most sixteen successors, and they are inside
-inside : (c : tie.Start Inv-loop μ-loop) → (length (successorsAt (c .args .sheet .now) (c .args .at)) ≤ 16) ×
+inside : (c : tie.Start Inv-loop μ-loop) → (length (successorsAt (c .args .sheet .now) (c .args .at)) ≤ maxSuccessors) ×
     (c .args .at + 7 + 2 * length (successorsAt (c .args .sheet .now) (c .args .at)) ≤ length (c .args .sheet .now))
 inside c = action-inside (c .args .sheet .now) (c .args .at) (c .pre .fits)
 
 -- a turn adds the value of one successor
 turned : (c : tie.After-larger Inv-loop μ-loop) → let st = start-of (loop-of c) in
-    SumsAt (st .args .sheet .now) (st .args .at) (loop-of c .loop .total + c .before .long .result) (c .larger .result)
+    SumsAt (st .args .sheet .now) (st .args .at) (loop-of c .loop .total + c .before .word-to-long .result) (c .larger .result)
     (loop-of c .loop .j + 1)
 turned c =
-    let value = c .before .long .ensures .0 ∙ c .before .before .value-at .ensures in
+    let value = c .before .word-to-long .ensures .0 ∙ c .before .before .value-at .ensures in
     let (more, sums) = loop-of c .loop .inv in
-    sums-more sums more (c .before .before .before .successor .ensures .0) value (c .before .long .ensures .1) (c .larger .ensures)
+    sums-more sums more (c .before .before .before .successor .ensures .0) value (c .before .word-to-long .ensures .1) (c .larger .ensures)
 
 next-action-requires : tie.Need-next-action-requires Inv-loop μ-loop
 next-action-requires c κs = search needs
@@ -68,13 +68,13 @@ value-at-requires c κs =
     let pre = start-of at-loop .pre in
     record { sheet = pre .sheet; below = rw (c .successor .ensures .0) (pre .below (at-loop .loop .j) (at-loop .loop .inv .0)) }
 
-long-requires : tie.Need-long-requires Inv-loop μ-loop
-long-requires c κs = search needs
+word-to-long-requires : tie.Need-word-to-long-requires Inv-loop μ-loop
+word-to-long-requires c κs = search needs
 
 add-total : tie.Need-add-total Inv-loop μ-loop
 add-total c =
     let at-loop = c .before .before .before in
-    omega (arith, c .long .ensures .1, at-loop .loop .inv .1 .summed, at-loop .loop .inv .0, inside (start-of at-loop))
+    omega (arith, c .word-to-long .ensures .1, at-loop .loop .inv .1 .summed, at-loop .loop .inv .0, inside (start-of at-loop))
 
 larger-requires : tie.Need-larger-requires Inv-loop μ-loop
 larger-requires c κs = search needs
@@ -97,8 +97,8 @@ loop-again c = (omega (arith, c .if1 .left, loop-of (c .before) .before .next-ac
 action-cost-requires : tie.Need-action-cost-requires Inv-loop μ-loop
 action-cost-requires c κs = search needs
 
-long-requires-2 : tie.Need-long-requires-2 Inv-loop μ-loop
-long-requires-2 c κs = search needs
+word-to-long-requires-2 : tie.Need-word-to-long-requires-2 Inv-loop μ-loop
+word-to-long-requires-2 c κs = search needs
 
 of-kind-requires : tie.Need-of-kind-requires Inv-loop μ-loop
 of-kind-requires c κs =
@@ -112,11 +112,11 @@ sum-fits c =
     let st = start-of (loop-of turn) in
     let top = turned turn in
     let fit = of-kind-fits (problemOf (st .args .sheet .now) .kind) (turn .larger .result)
-    (loop-of turn .loop .total + turn .before .long .result) in
+    (loop-of turn .loop .total + turn .before .word-to-long .result) in
     omega (arith, fit, c .of-kind .ensures, top .summed, top .largest, more, inside st)
 
 add-cut-off : tie.Need-add-cut-off Inv-loop μ-loop
-add-cut-off c = omega (arith, sum-fits c, c .before .long2 .ensures .1)
+add-cut-off c = omega (arith, sum-fits c, c .before .word-to-long2 .ensures .1)
 
 cut-off-requires : tie.Need-cut-off-requires Inv-loop μ-loop
 cut-off-requires c κs = search needs
@@ -141,7 +141,7 @@ price-spec =
     successor-requires
     add-j
     value-at-requires
-    long-requires
+    word-to-long-requires
     add-total
     larger-requires
     add-if1
@@ -150,7 +150,7 @@ price-spec =
     loop-less
     loop-again
     action-cost-requires
-    long-requires-2
+    word-to-long-requires-2
     of-kind-requires
     add-cut-off
     cut-off-requires

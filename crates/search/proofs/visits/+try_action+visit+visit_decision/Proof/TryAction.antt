@@ -19,7 +19,7 @@ use Rattle.search.proofs.Trying.{dear}
 use Rattle.sheet.proofs.fields.mark_decision.Reads as mark-decision-reads
 use Rattle.sheet.proofs.fields.next_action.Reads as next-action-reads
 use Rattle.sheet.proofs.numbers.get16.Reads as get16-reads
-use Rattle.sheet.proofs.numbers.place.Reads as place-reads
+use Rattle.sheet.proofs.convert.word_to_index.Reads as word-to-index-reads
 use Rattle.sheet.proofs.pricing.price.Reads as price-reads
 use Rattle.search.proofs.visits.ended.Reads as ended-reads
 use Rattle.search.proofs.visits.visit.Reads as visit
@@ -51,8 +51,8 @@ module _ (t : ℕ) where
     next-action-reads.Learnt,
     get16-reads.Asked,
     get16-reads.Learnt,
-    place-reads.Asked,
-    place-reads.Learnt,
+    word-to-index-reads.Asked,
+    word-to-index-reads.Learnt,
     visit-below t,
     visit.Post,
     price-reads.Asked,
@@ -69,8 +69,8 @@ module _ (t : ℕ) where
   abbrev At-loop : Type 0
   At-loop = lts.At-loop calls given reads.Post Inv-loop μ-loop
 
-  abbrev After-place : Type 0
-  After-place = lts.After-place calls given reads.Post Inv-loop μ-loop
+  abbrev After-word-to-index : Type 0
+  After-word-to-index = lts.After-word-to-index calls given reads.Post Inv-loop μ-loop
 
   abbrev After-visit : Type 0
   After-visit = lts.After-visit calls given reads.Post Inv-loop μ-loop
@@ -85,11 +85,11 @@ module _ (t : ℕ) where
   abbrev start-of : At-loop → Start
   start-of c = c .before .before .before .before .before
 
-  abbrev loop-of : After-place → At-loop
+  abbrev loop-of : After-word-to-index → At-loop
   loop-of c = c .before .before .before .before
 
-  abbrev place-of : After-visit → After-place
-  place-of c = c .before .before
+  abbrev found-of : After-visit → After-word-to-index
+  found-of c = c .before .before
 
   abbrev told-of : After-price → After-told
   told-of c = c .before .before .before
@@ -122,35 +122,35 @@ module _ (t : ℕ) where
   end-at c = let b = begun-at (start-of c) in turn-end (b .turn) (b .sheet) _ (c .before .next-action .ensures .0)
 
   -- the successor that is visited: there is one of its number, and it is a later state
-  later-at : (c : After-place) → let l = loop-of c in let st = start-of l in let j = nth (st .args .a) (l .loop .o) in
-      (j < length (tried st .successors)) × (c .place .result ≡ getD (tried st .successors) j 0) ×
-      (st .args .d .state < c .place .result) × (c .place .result < states (problemOf (st .args .sheet .now)))
+  later-at : (c : After-word-to-index) → let l = loop-of c in let st = start-of l in let j = nth (st .args .a) (l .loop .o) in
+      (j < length (tried st .successors)) × (c .word-to-index .result ≡ getD (tried st .successors) j 0) ×
+      (st .args .d .state < c .word-to-index .result) × (c .word-to-index .result < states (problemOf (st .args .sheet .now)))
   later-at c =
       let l = loop-of c in
       let st = start-of l in
       let lt : nth (st .args .a) (l .loop .o) < length (tried st .successors) =
       omega (arith, l .loop .inv .0, c .before .before .before .loop-test .taken, end-at l) in
-      let read = c .place .ensures .0 ∙ c .before .get16 .ensures .0 ∙ ap (be16 (l .loop .sheet)) (l .loop .inv .0) in
+      let read = c .word-to-index .ensures .0 ∙ c .before .get16 .ensures .0 ∙ ap (be16 (l .loop .sheet)) (l .loop .inv .0) in
       let is = turn-later (begun-at st .turn) (l .loop .inv .2 .sheet) _ lt read in
       (lt, is .0, is .1, is .2)
 
   -- what the visit did
-  did-at : (c : After-visit) → let l = loop-of (place-of c) in let x = start-of l .args in
+  did-at : (c : After-visit) → let l = loop-of (found-of c) in let x = start-of l .args in
       Did (x .table .now) (problemOf (x .sheet .now)) (c .visit .last .0) (c .visit .result)
-      (visiting (problemOf (x .sheet .now)) (x .budget) (place-of c .place .result) (reached (l .loop .sheet) (l .loop .spent)))
-  did-at c = rw (problem-is (loop-of (place-of c) .loop .inv .2 .sheet)) at (c .visit .ensures)
+      (visiting (problemOf (x .sheet .now)) (x .budget) (found-of c .word-to-index .result) (reached (l .loop .sheet) (l .loop .spent)))
+  did-at c = rw (problem-is (loop-of (found-of c) .loop .inv .2 .sheet)) at (c .visit .ensures)
 
   -- the loop goes on behind the successor
-  onwards : (c : After-visit) → let l = loop-of (place-of c) in let st = start-of l in let x = st .args in
+  onwards : (c : After-visit) → let l = loop-of (found-of c) in let st = start-of l in let x = st .args in
       Trying (x .table .now) (problemOf (x .sheet .now)) (x .budget) (x .d .state) (tried st) (x .sheet .now) (x .raises)
       (c .visit .last .0) (c .visit .result .raises) (nth (x .a) (l .loop .o) + 1) →
       Inv-loop (x .sheet .now) (x .table .now) (x .d) (x .n) (x .a) (x .raises) (x .budget)
       (l .before .next-action .result) (x .raises) (x .a + 7) (c .visit .last .0) (c .visit .result .raises) (l .loop .o + 2)
   onwards c h =
-      let l = loop-of (place-of c) in
+      let l = loop-of (found-of c) in
       let a = start-of l .args .a in
       let next : nth a (l .loop .o + 2) ≡ nth a (l .loop .o) + 1 = omega (arith, l .loop .inv .0) in
-      (omega (arith, l .loop .inv .0), omega (arith, l .loop .inv .0, later-at (place-of c) .0, end-at l), rw next h)
+      (omega (arith, l .loop .inv .0), omega (arith, l .loop .inv .0, later-at (found-of c) .0, end-at l), rw next h)
 
   -- every successor has passed, and the mark is made
   marked-at : (c : lts.After-mark-decision calls given reads.Post Inv-loop μ-loop) →
@@ -180,8 +180,8 @@ module _ (t : ℕ) where
       let same = sheet-length (begun-at (start-of l) .sheet) (l .loop .inv .2 .sheet) in
       omega (arith, l .loop .inv .0, c .before .loop-test .taken, end-at l, l .before .next-action .ensures .1, same)
 
-  place-requires : lts.Need-place-requires calls given reads.Post Inv-loop μ-loop
-  place-requires c κs = search needs
+  word-to-index-requires : lts.Need-word-to-index-requires calls given reads.Post Inv-loop μ-loop
+  word-to-index-requires c κs = search needs
 
   add-o-2 : lts.Need-add-o-2 calls given reads.Post Inv-loop μ-loop
   add-o-2 c = search needs
@@ -206,7 +206,7 @@ module _ (t : ℕ) where
   loop-again : lts.Need-loop-again calls given reads.Post Inv-loop μ-loop
   loop-again c =
       let v = visit-of (c .before) in
-      let p = place-of v in
+      let p = found-of v in
       let s = later-at p in
       onwards v (passes-quietly (begun-at (start-of (loop-of p))) (loop-of p .loop .inv .2) (s .0) (s .1) (did-at v)
       (c .before .enum-told .given .1) (c .if1 .taken))
@@ -214,7 +214,7 @@ module _ (t : ℕ) where
   price-requires : lts.Need-price-requires calls given reads.Post Inv-loop μ-loop
   price-requires c κs =
       let v = visit-of (c .before .before) in
-      turn-priced (begun-at (start-of (loop-of (place-of v))) .turn) (did-at v .sheet)
+      turn-priced (begun-at (start-of (loop-of (found-of v))) .turn) (did-at v .sheet)
 
   loop-less-2 : lts.Need-loop-less-2 calls given reads.Post Inv-loop μ-loop
   loop-less-2 c = omega arith
@@ -223,7 +223,7 @@ module _ (t : ℕ) where
   loop-again-2 c =
       let anew = c .before .before .before in
       let v = visit-of (told-of anew) in
-      let p = place-of v in
+      let p = found-of v in
       let s = later-at p in
       onwards v (passes-priced (begun-at (start-of (loop-of p))) (loop-of p .loop .inv .2) (s .0) (s .1) (did-at v)
       (told-of anew .enum-told .given .1) (anew .price .ensures .0) (omega arith))
@@ -234,13 +234,13 @@ module _ (t : ℕ) where
   same-length : lts.Need-same-length calls given reads.Post Inv-loop μ-loop
   same-length c =
       let v = visit-of (told-of (c .before .before .before .before)) in
-      sheet-length (begun-at (start-of (loop-of (place-of v))) .sheet) (did-at v .sheet)
+      sheet-length (begun-at (start-of (loop-of (found-of v))) .sheet) (did-at v .sheet)
 
   returns : lts.Need-returns calls given reads.Post Inv-loop μ-loop
   returns c =
       let anew = c .before .before .before .before in
       let v = visit-of (told-of anew) in
-      let p = place-of v in
+      let p = found-of v in
       let s = later-at p in
       dear (begun-at (start-of (loop-of p))) (loop-of p .loop .inv .2) (s .0) (s .1) (did-at v)
       (told-of anew .enum-told .given .1) (anew .price .ensures .0) (c .before .if2 .left) (c .ended .ensures)
@@ -250,12 +250,12 @@ module _ (t : ℕ) where
 
   same-length-2 : lts.Need-same-length-2 calls given reads.Post Inv-loop μ-loop
   same-length-2 c =
-      let v = c .before .before .before .before in sheet-length (begun-at (start-of (loop-of (place-of v))) .sheet) (did-at v .sheet)
+      let v = c .before .before .before .before in sheet-length (begun-at (start-of (loop-of (found-of v))) .sheet) (did-at v .sheet)
 
   returns-2 : lts.Need-returns-2 calls given reads.Post Inv-loop μ-loop
   returns-2 c =
       let v = c .before .before .before .before in
-      let p = place-of v in
+      let p = found-of v in
       let s = later-at p in
       let told = c .enum-told2 .given .1 in
       fails (begun-at (start-of (loop-of p))) (loop-of p .loop .inv .2) (s .0) (s .1) (did-at v) told (told, refl)
@@ -265,12 +265,12 @@ module _ (t : ℕ) where
 
   same-length-3 : lts.Need-same-length-3 calls given reads.Post Inv-loop μ-loop
   same-length-3 c =
-      let v = c .before .before .before .before in sheet-length (begun-at (start-of (loop-of (place-of v))) .sheet) (did-at v .sheet)
+      let v = c .before .before .before .before in sheet-length (begun-at (start-of (loop-of (found-of v))) .sheet) (did-at v .sheet)
 
   returns-3 : lts.Need-returns-3 calls given reads.Post Inv-loop μ-loop
   returns-3 c =
       let v = c .before .before .before .before in
-      let p = place-of v in
+      let p = found-of v in
       let s = later-at p in
       let told = c .enum-told3 .given .1 in
       halts (begun-at (start-of (loop-of p))) (loop-of p .loop .inv .2) (s .0) (s .1) (did-at v) told (told, refl)
@@ -287,7 +287,7 @@ module _ (t : ℕ) where
 
   same-length-4 : lts.Need-same-length-4 calls given reads.Post Inv-loop μ-loop
   same-length-4 c =
-      sheet-length (begun-at (start-of (c .before .before .before .before .before .before)) .sheet) (marked-at (c .before .before .before))
+      let m = c .before .before .before in sheet-length (begun-at (start-of (m .before .before .before)) .sheet) (marked-at m)
 
   returns-4 : lts.Need-returns-4 calls given reads.Post Inv-loop μ-loop
   returns-4 c =
@@ -310,7 +310,7 @@ module _ (t : ℕ) where
       add-o
       loop-holds
       get16-requires
-      place-requires
+      word-to-index-requires
       add-o-2
       visit-requires
       enum-told

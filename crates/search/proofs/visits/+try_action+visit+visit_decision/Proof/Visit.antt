@@ -1,4 +1,5 @@
--- `visit`: a settled state, a terminal, a decision. A line of code put before the second test lengthens `start-of` by a `.before`.
+-- `visit`: a solved state, a terminal, a decision. A line of code put before the first test lengthens `start-of` by a `.before`, one
+-- between the two tests `solved-of`.
 use Prim.Native.Nat.{ℕ, _-_}
 use mathlib.Core.Path.{_≡_, _∙_, sym}
 use mathlib.Core.Bool.{false}
@@ -43,27 +44,36 @@ module _ (t : ℕ) where
   abbrev Start : Type 0
   Start = lts.Start calls given reads.Post
 
+  abbrev After-solved-at : Type 0
+  After-solved-at = lts.After-solved-at calls given reads.Post
+
   abbrev After-is-terminal : Type 0
   After-is-terminal = lts.After-is-terminal calls given reads.Post
 
-  -- the call, from the test for a terminal
-  abbrev start-of : After-is-terminal → Start
-  start-of c = c .before .before .before .before .before .before .before
+  -- the call, from the test for a mark; that test, and the call, from the test for a terminal
+  abbrev start-of : After-solved-at → Start
+  start-of c = c .before .before .before .before
 
-  unsolved-at : (c : After-is-terminal) → let x = start-of c .args in solved (cellOf (cellsOf (x .sheet .now)) (x .state)) ≡ false
-  unsolved-at c = sym (c .before .before .before .solved-at .ensures) ∙ c .before .before .if1 .left
+  abbrev solved-of : After-is-terminal → After-solved-at
+  solved-of c = c .before .before .before
+
+  abbrev call-of : After-is-terminal → Start
+  call-of c = start-of (solved-of c)
+
+  unsolved-at : (c : After-is-terminal) → let x = call-of c .args in solved (cellOf (cellsOf (x .sheet .now)) (x .state)) ≡ false
+  unsolved-at c = sym (solved-of c .solved-at .ensures) ∙ c .before .before .if1 .left
 
   terminal-at : (c : lts.Then2 calls given reads.Post) →
-      let x = start-of (c .before) .args in Terminal (x .sheet .now) (x .table .now) (x .state)
+      let x = call-of (c .before) .args in Terminal (x .sheet .now) (x .table .now) (x .state)
   terminal-at c = record {
-    within = start-of (c .before) .pre .1 .0;
+    within = call-of (c .before) .pre .1 .0;
     tag = eqb-true _ _ (sym (c .before .is-terminal .ensures) ∙ c .if2 .taken);
   }
 
   decision-at : (c : lts.Else2 calls given reads.Post) →
-      let x = start-of (c .before) .args in Decision (x .sheet .now) (x .table .now) (x .state)
+      let x = call-of (c .before) .args in Decision (x .sheet .now) (x .table .now) (x .state)
   decision-at c = record {
-    within = start-of (c .before) .pre .1 .0;
+    within = call-of (c .before) .pre .1 .0;
     tag = not-terminal _ (eqb-false _ _ (sym (c .before .is-terminal .ensures) ∙ c .if2 .left));
   }
 
@@ -78,10 +88,10 @@ module _ (t : ℕ) where
 
   returns : lts.Need-returns calls given reads.Post
   returns c =
-      let st = c .before .before .before .before .before .before in
-      did (st .pre .1 .0 .sheet)
-      (sym (visit-solved _ _ (st .pre .1 .1 .0 .formed) _ _ (st .pre .1 .0 .below)
-      (sym (c .before .before .solved-at .ensures) ∙ c .before .if1 .taken))) (c .ended .ensures)
+      let tested = c .before .before in
+      let pre = start-of tested .pre .1 in
+      let marked = sym (tested .solved-at .ensures) ∙ c .before .if1 .taken in
+      did (pre .0 .sheet) (sym (visit-solved _ _ (pre .1 .0 .formed) _ _ (pre .0 .below) marked)) (c .ended .ensures)
 
   is-terminal-requires : lts.Need-is-terminal-requires calls given reads.Post
   is-terminal-requires c κs = search needs
@@ -91,28 +101,31 @@ module _ (t : ℕ) where
 
   same-length-2 : lts.Need-same-length-2 calls given reads.Post
   same-length-2 c =
-      let y = c .before .before .before .before in
-      sheet-length (start-of (y .before) .pre .1 .0 .sheet) (c .before .before .visit-terminal .ensures .sheet)
+      let v = c .before .before in
+      let y = v .before .before in
+      sheet-length (call-of (y .before) .pre .1 .0 .sheet) (v .visit-terminal .ensures .sheet)
 
   returns-2 : lts.Need-returns-2 calls given reads.Post
   returns-2 c =
-      let y = c .before .before .before .before in
-      let st = start-of (y .before) in
-      also-said (c .before .before .visit-terminal .ensures)
-      (sym (visit-terminal _ _ (st .pre .1 .1 .0 .formed) _ _ (st .pre .1 .0 .below) _ (unsolved-at (y .before))
-      (is-terminal _ (terminal-at y .tag))))
+      let v = c .before .before in
+      let y = v .before .before in
+      let pre = call-of (y .before) .pre .1 in
+      let node = is-terminal _ (terminal-at y .tag) in
+      also-said (v .visit-terminal .ensures)
+      (sym (visit-terminal _ _ (pre .1 .0 .formed) _ _ (pre .0 .below) _ (unsolved-at (y .before)) node))
 
   visit-decision-requires : lts.Need-visit-decision-requires calls given reads.Post
   visit-decision-requires c κs =
       let y = c .before in
-      let st = start-of (y .before) in
+      let st = call-of (y .before) in
       let pre = st .pre .1 in
       (omega (arith, st .pre .0), (decision-at y, (unsolved-at (y .before), (pre .1 .0, pre .1 .1))))
 
   same-length-3 : lts.Need-same-length-3 calls given reads.Post
   same-length-3 c =
-      let y = c .before .before .before .before in
-      sheet-length (start-of (y .before) .pre .1 .0 .sheet) (c .before .before .visit-decision .ensures .sheet)
+      let v = c .before .before in
+      let y = v .before .before in
+      sheet-length (call-of (y .before) .pre .1 .0 .sheet) (v .visit-decision .ensures .sheet)
 
   returns-3 : lts.Need-returns-3 calls given reads.Post
   returns-3 c = c .before .before .visit-decision .ensures

@@ -1,11 +1,14 @@
 -- `visit_decision`: the loop carries what `Acting` says. The lemmas typed by a place say it of that place; a line of code put between two
 -- places lengthens the function that leads from one to the other by a `.before`.
 use Prim.Native.Nat.{ℕ, _-_}
-use mathlib.Core.Path.{_∙_, sym}
+use mathlib.Core.Bool.{false}
+use mathlib.Core.Path.{_≡_, _∙_, sym}
 use native.Mathlib.Omega.{arith}
 use borrow.Author.Needs.{needs}
 use borrow.Fn.Kinds.{In}
-use lib.ListN.{length}
+use lib.Dec.{eqb}
+use lib.ListN.{length, getD}
+use Rattle.model.specs.Format.{actionTag}
 use Rattle.model.specs.Read.{problemOf, cellsOf}
 use Rattle.sheet.specs.Sheet.{Sheet}
 use Rattle.sheet.proofs.Laws.{problem-is, sheet-length, actionsAt}
@@ -74,6 +77,9 @@ module _ (t : ℕ) where
   abbrev Start : Type 0
   Start = lts.Start calls given reads.Post Inv-loop μ-loop
 
+  abbrev After-value-place : Type 0
+  After-value-place = lts.After-value-place calls given reads.Post Inv-loop μ-loop
+
   abbrev After-value-at : Type 0
   After-value-at = lts.After-value-at calls given reads.Post Inv-loop μ-loop
 
@@ -84,6 +90,10 @@ module _ (t : ℕ) where
   abbrev Here : Type 0
   Here = lts.Then1 calls given reads.Post Inv-loop μ-loop
 
+  -- no action stands here
+  abbrev Past : Type 0
+  Past = lts.Else1 calls given reads.Post Inv-loop μ-loop
+
   abbrev After-next-action : Type 0
   After-next-action = lts.After-next-action calls given reads.Post Inv-loop μ-loop
 
@@ -93,15 +103,28 @@ module _ (t : ℕ) where
   abbrev After-try-action : Type 0
   After-try-action = lts.After-try-action calls given reads.Post Inv-loop μ-loop
 
+  -- behind the try of an action, before its way is looked at
+  abbrev Tried : Type 0
+  Tried = lts.After-slice-known2 calls given reads.Post Inv-loop μ-loop
+
   -- from place to place
+  abbrev entry-of : After-value-place → Start
+  entry-of c = c .before .before .before .before
+
+  abbrev place-of : After-value-at → After-value-place
+  place-of c = c .before .before
+
   abbrev value-of : At-loop → After-value-at
   value-of c = c .before .before .before .before
 
   abbrev start-of : At-loop → Start
-  start-of c = value-of c .before .before .before .before .before .before
+  start-of c = entry-of (place-of (value-of c))
 
   abbrev loop-at : Here → At-loop
   loop-at c = c .before .before .before
+
+  abbrev loop-past : Past → At-loop
+  loop-past c = c .before .before .before
 
   abbrev next-of : After-price → After-next-action
   next-of c = c .before .before
@@ -112,18 +135,21 @@ module _ (t : ℕ) where
   abbrev price-of : After-try-action → After-price
   price-of c = c .before .before .before .before
 
+  abbrev try-of : Tried → After-try-action
+  try-of c = c .before .before
+
+  abbrev tried-loop : After-try-action → At-loop
+  tried-loop c = loop-at (here-of (price-of c))
+
   -- the decision that is visited
   abbrev decision : After-value-at → OpenDecision
-  decision c = record {
-    state = c .before .before .before .before .before .before .args .state;
-    cell = c .before .before .value-place .result;
-    value = c .value-at .result;
-  }
+  decision c =
+      let p = place-of c in record { state = entry-of p .args .state; cell = p .value-place .result; value = c .value-at .result }
 
-  opened-at : (c : After-value-at) → let x = c .before .before .before .before .before .before .args in
+  opened-at : (c : After-value-at) → let x = entry-of (place-of c) .args in
       Opened (x .table .now) (problemOf (x .sheet .now)) (x .budget) (decision c) (x .sheet .now) (x .raises)
   opened-at c =
-      let pre = c .before .before .before .before .before .before .pre .1 in
+      let pre = entry-of (place-of c) .pre .1 in
       let open-decision = pre .0 in
       let work = pre .1 .1 .0 in
       record {
@@ -133,7 +159,7 @@ module _ (t : ℕ) where
         below = open-decision .within .below;
         tag = open-decision .tag;
         unsolved = pre .1 .0;
-        place = c .before .before .value-place .ensures .0;
+        place = place-of c .value-place .ensures .0;
         now = c .value-at .ensures;
       }
 
@@ -146,9 +172,16 @@ module _ (t : ℕ) where
   turn-at c = let l = loop-at c in stands (opened-of l) (l .loop .inv) (sym (c .before .action-here .ensures) ∙ c .if1 .taken)
 
   -- the sheet that a tried action leaves
-  left-at : (c : After-try-action) → let x = start-of (loop-at (here-of (price-of c))) .args in
+  left-at : (c : After-try-action) → let x = start-of (tried-loop c) .args in
       Sheet (c .try-action .last .0) (x .table .now) (problemOf (x .sheet .now)) (cellsOf (c .try-action .last .0))
-  left-at c = back (loop-at (here-of (price-of c)) .loop .inv .sheet) (c .try-action .ensures .sheet)
+  left-at c = back (tried-loop c .loop .inv .sheet) (c .try-action .ensures .sheet)
+
+  left-long : (c : After-try-action) → length (c .try-action .last .0) ≡ length (start-of (tried-loop c) .args .sheet .now)
+  left-long c = sheet-length (opened-of (tried-loop c) .sheet) (left-at c)
+
+  -- no action is left
+  none-at : (c : Past) → eqb (getD (loop-past c .loop .sheet) (loop-past c .loop .at) 0) actionTag ≡ false
+  none-at c = sym (c .before .action-here .ensures) ∙ c .if1 .left
 
   value-place-requires : lts.Need-value-place-requires calls given reads.Post Inv-loop μ-loop
   value-place-requires c κs = search needs
@@ -210,37 +243,38 @@ module _ (t : ℕ) where
   ended-requires c κs = search needs
 
   same-length : lts.Need-same-length calls given reads.Post Inv-loop μ-loop
-  same-length c =
-      let v = c .before .before .before .before .before in sheet-length (opened-of (loop-at (here-of (price-of v))) .sheet) (left-at v)
+  same-length c = left-long (try-of (c .before .before .before))
 
   returns : lts.Need-returns calls given reads.Post Inv-loop μ-loop
   returns c =
-      let v = c .before .before .before .before .before in
+      let told = c .before in
+      let v = try-of (told .before .before) in
       let x = price-of v in
-      let l = loop-at (here-of x) in
+      let l = tried-loop v in
       succeeds (opened-of l) (l .loop .inv) (turn-at (here-of x)) (x .price .ensures .0) (v .before .before .if2 .left)
-      (v .try-action .ensures) (c .before .enum-told .given .1) (c .ended .ensures)
+      (v .try-action .ensures) (told .enum-told .given .1) (c .ended .ensures)
 
   enum-told-2 : lts.Need-enum-told-2 calls given reads.Post Inv-loop μ-loop
   enum-told-2 c = search needs
 
   price-requires-2 : lts.Need-price-requires-2 calls given reads.Post Inv-loop μ-loop
-  price-requires-2 c κs = let v = c .before .before .before .before .before in turn-priced (turn-at (here-of (price-of v))) (left-at v)
+  price-requires-2 c κs = let v = try-of (c .before .before .before) in turn-priced (turn-at (here-of (price-of v))) (left-at v)
 
   abandoned-requires : lts.Need-abandoned-requires calls given reads.Post Inv-loop μ-loop
   abandoned-requires c κs = search needs
 
   loop-less-2 : lts.Need-loop-less-2 calls given reads.Post Inv-loop μ-loop
-  loop-less-2 c = omega (arith, turn-at (here-of (price-of (c .before .before .before .before .before .before .before))) .exists)
+  loop-less-2 c =
+      let told = c .before .before .before in omega (arith, turn-at (here-of (price-of (try-of (told .before .before)))) .exists)
 
   loop-again-2 : lts.Need-loop-again-2 calls given reads.Post Inv-loop μ-loop
   loop-again-2 c =
-      let v = c .before .before .before .before .before .before .before in
+      let told = c .before .before .before in
+      let v = try-of (told .before .before) in
       let x = price-of v in
-      let l = loop-at (here-of x) in
+      let l = tried-loop v in
       abandons (opened-of l) (l .loop .inv) (turn-at (here-of x)) (x .price .ensures .0) (v .before .before .if2 .left)
-      (v .try-action .ensures)
-      (c .before .before .before .enum-told2 .given .1) (c .before .price2 .ensures .0) (next-of x .next-action .ensures .0)
+      (v .try-action .ensures) (told .enum-told2 .given .1) (c .before .price2 .ensures .0) (next-of x .next-action .ensures .0)
       (c .abandoned .ensures)
 
   enum-told-3 : lts.Need-enum-told-3 calls given reads.Post Inv-loop μ-loop
@@ -250,35 +284,36 @@ module _ (t : ℕ) where
   ended-requires-2 c κs = search needs
 
   same-length-2 : lts.Need-same-length-2 calls given reads.Post Inv-loop μ-loop
-  same-length-2 c =
-      let v = c .before .before .before .before .before in sheet-length (opened-of (loop-at (here-of (price-of v))) .sheet) (left-at v)
+  same-length-2 c = left-long (try-of (c .before .before .before))
 
   returns-2 : lts.Need-returns-2 calls given reads.Post Inv-loop μ-loop
   returns-2 c =
-      let v = c .before .before .before .before .before in
+      let told = c .before in
+      let v = try-of (told .before .before) in
       let x = price-of v in
-      let l = loop-at (here-of x) in
+      let l = tried-loop v in
       halts (opened-of l) (l .loop .inv) (turn-at (here-of x)) (x .price .ensures .0) (v .before .before .if2 .left)
-      (v .try-action .ensures) (c .before .enum-told3 .given .1) (c .ended2 .ensures)
+      (v .try-action .ensures) (told .enum-told3 .given .1) (c .ended2 .ensures)
 
   fail-requires : lts.Need-fail-requires calls given reads.Post Inv-loop μ-loop
   fail-requires c κs =
-      let l = c .before .before .before .before in
+      let l = loop-past (c .before) in
       let w = opened-of l in
       let m = l .loop .inv in
-      (still-opens w m, (still-workable w m, all-kept w m (sym (c .before .before .action-here .ensures) ∙ c .before .if1 .left)))
+      (still-opens w m, (still-workable w m, all-kept w m (none-at (c .before))))
 
   same-length-3 : lts.Need-same-length-3 calls given reads.Post Inv-loop μ-loop
   same-length-3 c =
-      let l = c .before .before .before .before .before .before .before in
-      sheet-length (opened-of l .sheet) (back (l .loop .inv .sheet) (c .before .before .fail .ensures .sheet))
+      let f = c .before .before in
+      let l = loop-past (f .before .before) in
+      sheet-length (opened-of l .sheet) (back (l .loop .inv .sheet) (f .fail .ensures .sheet))
 
   returns-3 : lts.Need-returns-3 calls given reads.Post Inv-loop μ-loop
   returns-3 c =
-      let l = c .before .before .before .before .before .before .before in
-      fails (opened-of l) (l .loop .inv)
-      (sym (c .before .before .before .before .before .action-here .ensures) ∙ c .before .before .before .before .if1 .left)
-      (c .before .before .fail .ensures)
+      let f = c .before .before in
+      let past = f .before .before in
+      let l = loop-past past in
+      fails (opened-of l) (l .loop .inv) (none-at past) (f .fail .ensures)
 
   pub proved : {M : Type 1} → lts.Closed calls given reads.Post M
   proved =

@@ -1,8 +1,9 @@
+-- A line of code put between two of the tests lengthens `n` of the answers behind it by a `.before`.
 use native.Mathlib.Omega.{arith}
 use borrow.Author.Needs.{needs}
 use Rattle.questions.proofs.Reading.{action-low, action-high, action-odd, action-cut, action-whole}
-use Rattle.questions.proofs.stages.action_length.Statement.{statement}
-use Rattle.questions.proofs.stages.action_length.Tie as tie
+use Rattle.questions.proofs.fields.action_length.Statement.{statement}
+use Rattle.questions.proofs.fields.action_length.Tie as tie
 
 content-at-requires : tie.Need-content-at-requires
 content-at-requires c κs = search needs

@@ -4,14 +4,14 @@ use native.Mathlib.Omega.{arith}
 use borrow.Author.Needs.{needs}
 use lib.ListN.{length}
 use Rattle.io.proofs.Counting.{counts}
-use Rattle.price.proofs.read.Statement.{statement}
-use Rattle.price.proofs.read.Tie as tie
+use Rattle.price.proofs.input.read.Statement.{statement}
+use Rattle.price.proofs.input.read.Tie as tie
 
 abbrev Inv-loop : tie.InvT-loop
-Inv-loop buf₀ count₀ t5 buf count = (count ≤ length buf) × (length buf ≡ length buf₀)
+Inv-loop fd name buf₀ count₀ buf count = (count ≤ length buf) × (length buf ≡ length buf₀)
 
 abbrev μ-loop : tie.MeasureT-loop
-μ-loop buf₀ count₀ t5 buf count = length buf - count
+μ-loop fd name buf₀ count₀ buf count = length buf - count
 
 loop-holds : tie.Need-loop-holds Inv-loop μ-loop
 loop-holds c = search needs
@@ -27,9 +27,6 @@ part-read-end c = search needs
 
 read-requires : tie.Need-read-requires Inv-loop μ-loop
 read-requires c κs = search needs
-
-slice-aggregate-fail : tie.Need-slice-aggregate-fail Inv-loop μ-loop
-slice-aggregate-fail c = search needs
 
 fail-requires : tie.Need-fail-requires Inv-loop μ-loop
 fail-requires c κs = search needs
@@ -84,7 +81,6 @@ read-spec =
     part-read-start
     part-read-end
     read-requires
-    slice-aggregate-fail
     fail-requires
     same-length
     returns

@@ -1,8 +1,9 @@
--- The definitions give the text that document 01 prints for sheet A, and each outcome's line one.
+-- S11.16: the definitions give the text of sheet A, and each outcome's line one.
 use mathlib.Core.Path.{_≡_, refl}
 use mathlib.Core.List.{[]}
 use Rattle.model.specs.declared.Outcome.the-variants.{Over, Stopped}
-use Rattle.model.specs.Report.{largest, computing}
+use Rattle.model.proofs.Computing.{computing}
+use Rattle.model.specs.Report.{largest}
 use Rattle.model.specs.Rows.{sheetA}
 use Rattle.listing.specs.Text.{ascii, digits}
 use Rattle.listing.specs.Listing.{lineOne, listed, reachedBelow, stateLines, listing}

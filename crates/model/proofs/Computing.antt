@@ -1,0 +1,60 @@
+-- unfolding: computing use: Rattle.model.proofs.Computing.{computing} What computes: whoever names `computing` on an `unfolding` line
+-- unfolds all that a call's answer, bytes and table need at a literal sheet.
+use Rattle.model.specs.Tests.{also, all, every}
+use Rattle.model.specs.Limits.{ceiling}
+use Rattle.model.specs.Format.{be16, be32, successorsBytes, actionsBytes, nodeBytes, nodesBytes, kindByte, write, actionsSize}
+use Rattle.model.specs.Format.{nodeSize, offsetsFrom}
+use Rattle.model.specs.Read.{actionFits, successorsRead, actionRead, actionsGood, actionsRead, actionsLong, terminalFits}
+use Rattle.model.specs.Read.{headerFits, decisionFits, nodesGood, nodesRead, cellsRead, kindOf, problemOf, cellsOf}
+use Rattle.model.specs.QValue.{join, joined, leastFrom, least}
+use Rattle.model.specs.Questions.{question1, question2, question3, question4, costsInRange, chosenInRange, cellInRange, question5}
+use Rattle.model.specs.Questions.{ascending, successorsInOrder, question6}
+use Rattle.model.specs.Questions.{valueUnder, question7, allSolved, passedBy, markEarned, question8, question9, firstNo}
+use Rattle.model.specs.Questions.{sheetRefusal, refusal, accepted}
+use Rattle.model.specs.Ldfs.{onTest, onVisit, update, ifDear, visitAll, tryOne, tryAll, visitOpen, visit, onPass, passes, work}
+use Rattle.model.specs.Report.{outcomeOf, onRefusal, answerTo, report, bytesAfter, indexTable, refusedTable, checkedTable}
+use Rattle.model.specs.Report.{tableAfter}
+
+-- fields written, and their offsets
+unfoldable computingBytes : Unit {0}
+unfolding be16 be32 successorsBytes actionsBytes nodeBytes nodesBytes kindByte write actionsSize nodeSize offsetsFrom
+computingBytes = tt
+
+-- are fields in place?
+unfoldable computingGood : Unit {0}
+unfolding actionFits actionsGood actionsLong terminalFits headerFits decisionFits nodesGood
+computingGood = tt
+
+-- what they say
+unfoldable computingRead : Unit {0}
+unfolding successorsRead actionRead actionsRead nodesRead cellsRead kindOf problemOf cellsOf
+computingRead = tt
+
+-- limits, tests and prices
+unfoldable computingPrices : Unit {0}
+unfolding also all every ceiling join joined leastFrom least
+computingPrices = tt
+
+-- questions 1 to 6
+unfoldable computingRanges : Unit {0}
+unfolding question1 question2 question3 question4 costsInRange chosenInRange cellInRange question5 ascending successorsInOrder question6
+computingRanges = tt
+
+-- questions 7 to 9, and refusals
+unfoldable computingMarks : Unit {0}
+unfolding valueUnder question7 allSolved passedBy markEarned question8 question9 firstNo sheetRefusal refusal accepted
+computingMarks = tt
+
+-- visits and passes
+unfoldable computingWork : Unit {0}
+unfolding onTest onVisit update ifDear visitAll tryOne tryAll visitOpen visit onPass passes work
+computingWork = tt
+
+-- the answer of a call, and what it leaves
+unfoldable computingCalls : Unit {0}
+unfolding outcomeOf onRefusal answerTo report bytesAfter indexTable refusedTable checkedTable tableAfter
+computingCalls = tt
+
+unfoldable pub computing : Unit {0}
+unfolding computingBytes computingGood computingRead computingPrices computingRanges computingMarks computingWork computingCalls
+computing = tt

@@ -1,0 +1,28 @@
+-- The limits of a sheet, one definition each. `src/lib.rt` has the same numbers for the code, and the proofs hold the two to each other.
+use Prim.Native.Nat.{ℕ}
+
+-- S4.1, S4.3: the most stages that a sheet has, and the fewest entries of its index table
+abbrev pub maxStates : ℕ
+maxStates = 1024
+
+-- S4.2: the fewest and the most bytes that a sheet has
+abbrev pub minBytes : ℕ
+minBytes = 20
+
+abbrev pub maxBytes : ℕ
+maxBytes = 60000
+
+-- S3.3, S3.2: the most checks that a junction has, and the most findings that a check has
+abbrev pub maxActions : ℕ
+maxActions = 16
+
+abbrev pub maxSuccessors : ℕ
+maxSuccessors = 16
+
+-- S4.5: the largest cost of a check or an ending
+abbrev pub maxCost : ℕ
+maxCost = 1000000
+
+-- S2.7: the ceiling, which any value or price above it counts as
+unfoldable pub ceiling : ℕ
+ceiling = 1000000000

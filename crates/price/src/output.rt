@@ -1,0 +1,32 @@
+// Writing: the listing on standard output, and what is said on standard error.
+use crate::words::words;
+use libc::STDERR_FILENO;
+use libc::STDOUT_FILENO;
+use model::Outcome;
+
+// Says on standard error what failed and why (S10.6). The reason is errno's, which the write before it leaves alone where it succeeds.
+pub fn fail(what: &[u8]) {
+    io::write_all(STDERR_FILENO, b"price: ");
+    os::fail(what);
+}
+
+// Writes a listing on standard output, or says why it cannot (S10.2, S10.6).
+pub fn write(text: &[u8]) {
+    if !io::write_all(STDOUT_FILENO, text) {
+        fail(b"standard output");
+    }
+}
+
+// Explains a refusal on standard error (S10.5); no other outcome needs it.
+pub fn explain(o: Outcome) {
+    match o {
+        Outcome::Refused(n) => {
+            io::write_all(STDERR_FILENO, b"price: refused ");
+            io::print_decimal(STDERR_FILENO, n as u64);
+            words(STDERR_FILENO, n);
+        }
+        Outcome::Settled => {}
+        Outcome::Over => {}
+        Outcome::Stopped => {}
+    }
+}

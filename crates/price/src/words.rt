@@ -1,0 +1,59 @@
+// How the program is used, and why a sheet is refused, in words.
+
+// Writes how the program is used (S10.8), and answers whether all of it was written.
+pub fn usage(fd: i32) -> bool {
+    io::write_all(
+        fd,
+        b"usage: price [FILE]
+       price --help
+
+Prices the fault sheet in FILE, or the one on standard input: the least cost for which the fault
+can be cleared however the findings fall, and the plan that costs it.
+
+Line one is the outcome (settled or over), the price in cents, passes and raises. Where it is
+settled, a line follows for each stage that the plan reaches: its number, its check or `end`, and
+its value. A sheet that is refused gets `refused` and the number of the question that it fails,
+which is explained on standard error.
+
+docs/SPEC.md, S10, has it all.
+",
+    )
+}
+
+// Writes the id of the question with this number and what its "no" means (S4, S10.5), and ends the line. A number that no question has
+// gets no words.
+pub fn words(fd: i32, n: u32) -> bool {
+    match n {
+        1 => io::write_all(
+            fd,
+            b" (S4.1): the index table has no room for 1,024 entries\n",
+        ),
+        2 => io::write_all(fd, b" (S4.2): the sheet's size is not 20 to 60,000 bytes\n"),
+        3 => io::write_all(
+            fd,
+            b" (S4.3): there is no head, or its kind, number of stages or start is out of range\n",
+        ),
+        4 => io::write_all(
+            fd,
+            b" (S4.4): the fields behind the head are not exactly its stages, whole and in order\n",
+        ),
+        5 => io::write_all(
+            fd,
+            b" (S4.5): a cost, a value, a mark or a chosen check is out of its range\n",
+        ),
+        6 => io::write_all(
+            fd,
+            b" (S4.6): a check's findings are not ascending, above its junction and below the number of stages\n",
+        ),
+        7 => io::write_all(
+            fd,
+            b" (S4.7): a value is above the cost of its ending, or above the price of a check of its junction\n",
+        ),
+        8 => io::write_all(
+            fd,
+            b" (S4.8): a mark says settled, and the stage's value or a finding of its chosen check does not\n",
+        ),
+        9 => io::write_all(fd, b" (S4.9): the budget is 0\n"),
+        _ => io::write_all(fd, b"\n"),
+    }
+}
