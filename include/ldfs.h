@@ -1,11 +1,18 @@
 /*
  * ldfs.h: least-cost planning on fault sheets, by learning depth-first search (LDFS).
  *
- * One function works a sheet, in place, within a budget. C99, and usable from C++. Link with libhost.a.
- * docs/HOST.md says the same at greater length; tests/c/example.c is a host to start from.
+ * One function works a sheet, in place, within a budget. C99, and usable from C++.
  *
- * The library keeps nothing between calls: no memory, no files, no global state. Everything that it reads or writes is in the three
- * slices that it is lent. It can be called from several threads at once, on slices that do not overlap.
+ * Platform   x86-64 Linux, called by the System V ABI, as every C compiler there calls. The archive has code for nothing else.
+ * Linking    install.sh PREFIX puts libldfs.a, this header and ldfs.pc under PREFIX; then -lldfs, and no other library.
+ * Stack      a call needs up to LDFS_STACK_BYTES of stack, on the deepest sheets, beside what its thread needs otherwise.
+ * Memory     the library allocates nothing and keeps nothing between calls: no memory, no files, no global state. All that it
+ *            reads or writes is its own stack and the three slices that it is lent.
+ * Threads    calls on slices that do not overlap may run at once.
+ * Money      every amount, in the sheet and in the result, is a whole number of cents.
+ *
+ * docs/HOST.md says all this at greater length; docs/SPEC.md is the specification, whose ids stand here in brackets; examples/host.c is a
+ * host to start from. install.sh puts all three into PREFIX/share/doc/ldfs.
  */
 #ifndef LDFS_H
 #define LDFS_H
@@ -13,61 +20,94 @@
 #include <stddef.h>
 #include <stdint.h>
 
+/*
+ * The version of this interface: of the function, its numbers, and the bytes of a sheet, a table and a result. MAJOR changes where a host
+ * or a stored sheet of before would no longer do, MINOR where something is added, PATCH where neither. A sheet's bytes hold no version.
+ */
+#define LDFS_VERSION_MAJOR 1
+#define LDFS_VERSION_MINOR 0
+#define LDFS_VERSION_PATCH 0
+#define LDFS_VERSION "1.0.0"
+
 #ifdef __cplusplus
 extern "C" {
 #endif
 
 /* Lengths in bytes, and limits. */
-enum {
-    LDFS_SHEET_LEAST = 20,     /* a sheet has at least this many bytes, */
-    LDFS_SHEET_MOST = 60000,   /* and at most this many */
-    LDFS_STAGES_MOST = 1024,   /* stages of a sheet, at most */
-    LDFS_ENTRY_BYTES = 4,      /* an entry of the index table: 32 bits, least significant byte first */
-    LDFS_TABLE_LEAST = 4096,   /* the index table: 1,024 entries, or more */
-    LDFS_RESULT_LEAST = 24,    /* the result: three numbers of 64 bits, or more room */
-    LDFS_CEILING = 1000000000  /* in cents: a value at the ceiling means "that much or more" */
-};
+#define LDFS_SHEET_LEAST 20      /* a sheet has at least this many bytes, */
+#define LDFS_SHEET_MOST 60000    /* and at most this many */
+#define LDFS_STAGES_MOST 1024    /* stages of a sheet, at most */
+#define LDFS_ENTRY_BYTES 4       /* an entry of the index table: 32 bits, least significant byte first */
+#define LDFS_TABLE_LEAST 4096    /* the index table: 1,024 entries, or more */
+#define LDFS_RESULT_LEAST 24     /* the result: three numbers of 64 bits, or more room */
+#define LDFS_STACK_BYTES 204800  /* stack that a call needs, at most: measured and rounded up (docs/HOST.md), not proved */
+#define LDFS_CEILING 1000000000  /* in cents: a value at the ceiling means "that much or more" [S2.7] */
 
-/* Where the numbers stand in the result: eight bytes each, least significant first; all 0 when the call is refused. */
-enum {
-    LDFS_RESULT_PRICE = 0,  /* the start's value, in cents */
-    LDFS_RESULT_PASSES = 8, /* passes begun by this call */
-    LDFS_RESULT_RAISES = 16 /* raises made by this call */
-};
-
-/* What ldfs_solve returns: a refusal, 1 to 9, which is the number of the first question that is answered no .. */
-enum {
-    LDFS_REFUSED_ROOM = 1,     /* has the index table 1,024 entries or more, and the result 24 bytes or more? */
-    LDFS_REFUSED_SIZE = 2,     /* has the sheet 20 to 60,000 bytes? */
-    LDFS_REFUSED_HEAD = 3,     /* does it begin with a head: kind 0 or 1, stages 1 to 1,024, start below that number? */
-    LDFS_REFUSED_FIELDS = 4,   /* is the remainder exactly those stages, in the format's order and lengths? */
-    LDFS_REFUSED_RANGES = 5,   /* are costs, values, marks and chosen checks in their ranges? */
-    LDFS_REFUSED_FINDINGS = 6, /* are findings ascending, above their junction's number, below the number of stages? */
-    LDFS_REFUSED_VALUES = 7,   /* is no value above its ending's cost, or above the price of a check of its junction? */
-    LDFS_REFUSED_MARKS = 8,    /* has each settled stage the value that settles it, and settled findings below it? */
-    LDFS_REFUSED_BUDGET = 9    /* is the budget at least 1? */
-};
-
-/* .. or the outcome of the work. */
-enum {
-    LDFS_SETTLED = 100, /* the start is settled below the ceiling: its value is the least cost, and the plan is in the sheet */
-    LDFS_OVER = 101,    /* the start is settled at the ceiling: the least cost is that much or more */
-    LDFS_STOPPED = 102  /* the budget is spent: the sheet can be carried on with another call */
-};
+/* Where the numbers stand in the result: eight bytes each, least significant first [S9.5]. */
+#define LDFS_RESULT_PRICE 0   /* the start's value, in cents: what it means depends on the outcome, below; 0 when refused */
+#define LDFS_RESULT_PASSES 8  /* passes begun by this call; 0 when refused */
+#define LDFS_RESULT_RAISES 16 /* raises made by this call; 0 when refused */
 
 /*
- * Works the sheet until its start is settled or the budget of raises is spent.
+ * Where things stand in a sheet [S3.2]. A field is its tag (one byte), the length of its content (two bytes), and the content. Numbers in a
+ * sheet are most significant byte first. The head stands at 0; entry i of the index table is where stage i's field stands.
+ */
+#define LDFS_FIELD_LENGTH 1   /* of any field: the length of its content, 2 bytes; the next field stands at 3 plus that */
+#define LDFS_FIELD_CONTENT 3
+#define LDFS_HEAD_TAG 1
+#define LDFS_HEAD_KIND 3      /* 1 byte: 0 worst, 1 whole */
+#define LDFS_HEAD_STAGES 4    /* 2 bytes */
+#define LDFS_HEAD_START 6     /* 2 bytes */
+#define LDFS_ENDING_TAG 2
+#define LDFS_ENDING_COST 3    /* 4 bytes */
+#define LDFS_ENDING_VALUE 7   /* 4 bytes */
+#define LDFS_ENDING_MARK 11   /* 1 byte: 0 open, 1 settled */
+#define LDFS_JUNCTION_TAG 3
+#define LDFS_JUNCTION_VALUE 3 /* 4 bytes */
+#define LDFS_JUNCTION_MARK 7  /* 1 byte: 0 open, 1 settled */
+#define LDFS_JUNCTION_CHOSEN 8 /* 1 byte: the number of the chosen check */
+#define LDFS_JUNCTION_CHECKS 9 /* the field of its check 0; the others follow */
+#define LDFS_CHECK_TAG 4
+#define LDFS_CHECK_COST 3     /* 4 bytes */
+#define LDFS_CHECK_FINDINGS 7 /* 2 bytes each: (length - 4) / 2 of them */
+
+/*
+ * What ldfs_solve returns: a refusal, 1 to 9, which is the number of the first question that is answered no [S4, S5]. Each question is
+ * settled for the whole sheet before the next, so refusal k means that questions 1 to k - 1 are answered yes and question k is not. The
+ * sheet is as it was. 1 and 9 are about what the host lent; 2 to 8 are faults of the sheet ..
+ */
+#define LDFS_REFUSED_ROOM 1     /* [S4.1] the table has fewer than 4,096 bytes, or the result fewer than 24 [S9.6] */
+#define LDFS_REFUSED_SIZE 2     /* [S4.2] the sheet has fewer than 20 bytes, or more than 60,000 */
+#define LDFS_REFUSED_HEAD 3     /* [S4.3] it does not begin with a head: kind 0 or 1, 1 to 1,024 stages, start below their number */
+#define LDFS_REFUSED_FIELDS 4   /* [S4.4] what follows is not exactly those stages, in the format's order, counts and lengths */
+#define LDFS_REFUSED_RANGES 5   /* [S4.5] a cost, a value, a mark or a chosen check is out of its range */
+#define LDFS_REFUSED_FINDINGS 6 /* [S4.6] findings do not ascend strictly, or one is not above its junction's number, or is no stage */
+#define LDFS_REFUSED_VALUES 7   /* [S4.7] a value is above its ending's cost, or above the price of a check of its junction */
+#define LDFS_REFUSED_MARKS 8    /* [S4.8] a settled stage has another value than settles it, or its chosen check an open finding */
+#define LDFS_REFUSED_BUDGET 9   /* [S4.9] the budget is 0, and nothing else is wrong: the sheet is valid */
+
+/* .. or the outcome of the work, which says what the price in the result is [S7.1, S8]. */
+#define LDFS_SETTLED 100 /* the start is settled below the ceiling: the price is the least cost, and the sheet holds a plan that costs it */
+#define LDFS_OVER 101    /* the start is settled at the ceiling: the price is the ceiling, and every plan costs that or more */
+#define LDFS_STOPPED 102 /* the budget is spent and the start is open: the price is a lower bound. No plan costs less, and from call to
+                            call on the same sheet it never falls. Another call carries the sheet on */
+
+/*
+ * Works the sheet until its start is settled or the budget of raises is spent [S9].
  *
  *   sheet    the sheet's bytes; work changes values, marks and chosen checks, and a refusal changes nothing
  *   table    the index table, whatever it holds. When the sheet is worked, entry i becomes the byte offset of stage i's field and every
  *            entry past the last stage 0, also past the 1,024th. Refusals 2 to 9 make every entry 0; refusal 1 leaves the table as it
  *            is. One to three bytes left over behind the last whole entry are not touched.
- *   budget   the most raises that this call may make; UINT64_MAX for as many as it takes
- *   result   price, passes and raises, in the first 24 bytes, on every return; bytes behind them keep their content. With fewer than 24
- *            the call is refused 1, and all three slices keep theirs.
+ *   budget   the most raises that this call may make. UINT64_MAX is as many as it takes. 0 works nothing and asks questions 1 to 8
+ *            only: LDFS_REFUSED_BUDGET then says that the sheet is valid, and 2 to 8 is the sheet's fault.
+ *   result   price, passes and raises, in the first 24 bytes, on every return, with 0 for each when the call is refused; bytes after them
+ *            keep their content. With fewer than 24 the call is refused 1, and all three slices keep theirs.
  *
- * Each slice is a pointer and the number of bytes behind it. The slices must not overlap, and no pointer may be null.
- * Returns one of the numbers above.
+ * Each slice is a pointer and the number of bytes from there on; any alignment will do. The slices must not overlap, and nobody else may use
+ * them during the call. No pointer may be null, not even with length 0 (an empty std::vector's may be): for a slice of no bytes pass the
+ * address of any byte of your own.
+ * Returns one of the numbers above, and no other.
  */
 uint32_t ldfs_solve(uint8_t *sheet, size_t sheet_length, uint8_t *table, size_t table_length, uint64_t budget, uint8_t *result,
                     size_t result_length);

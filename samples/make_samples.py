@@ -3,7 +3,7 @@
 
     python3 samples/make_samples.py
 
-The bytes are put together from document 01's table of fields alone: nothing here prices, works or checks a sheet.
+The bytes are put together from the table of fields alone (S3 of docs/SPEC.md): nothing here prices, works or checks a sheet.
 """
 
 from pathlib import Path
@@ -38,7 +38,7 @@ def sheet(kind, stages):
 
 
 def sheet_a(first_cost=200):
-    """Document 01's sheet A, whose first check costs 200."""
+    """Sheet A of the worked examples (S11), whose first check costs 200."""
     return sheet(WORST, [
         junction([(first_cost, [1, 3]), (500, [3])]),
         junction([(400, [2, 3])]),
@@ -48,7 +48,7 @@ def sheet_a(first_cost=200):
 
 
 def sheet_b(kind=WORST, value=0, first_finding=1, mark=OPEN):
-    """Document 01's sheet B, with its junction's value, its first finding and the mark of ending 1."""
+    """Sheet B of the worked examples (S11), with its junction's value, its first finding and the mark of ending 1."""
     return sheet(kind, [
         junction([(100, [first_finding, 2])], value=value),
         ending(30, mark=mark),

@@ -1,6 +1,7 @@
 /*
- * A host of ldfs_solve, to start from. It works sheet A, carries interrupted work on, reads the plan, and meets each refusal.
- * It prints what it does and exits with 1 if anything is not as document 01 says. All expected numbers are from that document.
+ * The test of ldfs_solve as a host in C calls it (S9 of docs/SPEC.md). It works sheet A, carries interrupted work on, reads the plan, and
+ * meets each refusal. It prints what it does and exits with 1 if anything is not as expected. The expected numbers are those of the
+ * worked examples (S11) and the questions (S4). A host to start from is examples/host.c.
  */
 #include "ldfs.h"
 
@@ -79,7 +80,7 @@ static uint32_t solve(uint8_t *sheet, size_t length, uint64_t budget)
     return ldfs_solve(sheet, length, table, sizeof table, budget, result, sizeof result);
 }
 
-/* The same, with what document 01 says that it returns: the number, price, passes and raises. */
+/* The same, with what it is to return: the number, price, passes and raises. */
 static void solve_expecting(const char *name, uint8_t *sheet, size_t length, uint64_t budget, uint32_t number, uint64_t price,
                             uint64_t passes, uint64_t raises)
 {
@@ -136,16 +137,20 @@ static void sheet_a_carried_on(void)
 }
 
 /* The same in steps of one raise, as a host does that has other work between calls. A call that stops has made as many raises as its
-   budget allows. */
+   budget allows, and its price is a lower bound that never falls. */
 static void sheet_a_in_steps(void)
 {
     uint8_t sheet[sizeof sheet_a];
     memcpy(sheet, sheet_a, sizeof sheet);
     uint32_t number;
+    uint64_t bound = 0;
     int calls = 0;
     do {
         number = solve(sheet, sizeof sheet, 1);
         calls++;
+        uint64_t price = little(result + LDFS_RESULT_PRICE, 8);
+        expect(bound <= price && price <= 500, "the price never falls, nor goes beyond the least cost");
+        bound = price;
         if (number == LDFS_STOPPED)
             expect(little(result + LDFS_RESULT_RAISES, 8) == 1, "a stopped call has spent its budget");
     } while (number == LDFS_STOPPED);
@@ -247,10 +252,23 @@ static void refused_for_want_of_room(void)
     expect(memcmp(sheet, sheet_a, sizeof sheet) == 0, "the sheet is unaltered");
 }
 
+/* A slice of no bytes: the address of any byte of the host's own serves, and that byte is not touched. */
+static void slices_of_no_bytes(void)
+{
+    uint8_t sheet[sizeof sheet_a], byte = 7;
+    memcpy(sheet, sheet_a, sizeof sheet);
+    expect(ldfs_solve(&byte, 0, table, sizeof table, 1, result, sizeof result) == LDFS_REFUSED_SIZE, "a sheet of no bytes");
+    expect(ldfs_solve(sheet, sizeof sheet, &byte, 0, 1, result, sizeof result) == LDFS_REFUSED_ROOM, "a table of no bytes");
+    expect(ldfs_solve(sheet, sizeof sheet, table, sizeof table, 1, &byte, 0) == LDFS_REFUSED_ROOM, "a result of no bytes");
+    expect(byte == 7, "the byte is unaltered");
+    expect(memcmp(sheet, sheet_a, sizeof sheet) == 0, "the sheet is unaltered");
+}
+
 static void every_refusal(void)
 {
     const size_t a = sizeof sheet_a, b = sizeof sheet_b;
     refused_for_want_of_room();
+    slices_of_no_bytes();
     refused("19 bytes", sheet_a, LDFS_SHEET_LEAST - 1, UINT64_MAX, LDFS_REFUSED_SIZE);
     refused("number of stages 0", changed(sheet_b, b, B_STAGES_LOW, 0), b, UINT64_MAX, LDFS_REFUSED_HEAD);
     refused("check cost 0 and a cut last field", changed(sheet_a, a, A_FIRST_COST, 0), a - 1, UINT64_MAX, LDFS_REFUSED_FIELDS);
@@ -259,11 +277,22 @@ static void every_refusal(void)
     refused("B, finding 1 replaced by 0", changed(sheet_b, b, B_FINDING_LOW, 0), b, UINT64_MAX, LDFS_REFUSED_FINDINGS);
     refused("B, junction value 101", changed(sheet_b, b, B_VALUE_LOW, 101), b, UINT64_MAX, LDFS_REFUSED_VALUES);
     refused("B, ending 1 settled at 0", changed(sheet_b, b, B_ENDING_MARK, 1), b, UINT64_MAX, LDFS_REFUSED_MARKS);
+    /* A budget of 0 asks questions 1 to 8: 9 where the sheet is valid, and its own number where it is not. */
     refused("sheet A, budget 0", sheet_a, a, 0, LDFS_REFUSED_BUDGET);
+    refused("check cost 0, budget 0", changed(sheet_a, a, A_FIRST_COST, 0), a, 0, LDFS_REFUSED_RANGES);
+}
+
+/* The version as text is the three numbers. */
+static void version(void)
+{
+    char text[32];
+    snprintf(text, sizeof text, "%d.%d.%d", LDFS_VERSION_MAJOR, LDFS_VERSION_MINOR, LDFS_VERSION_PATCH);
+    expect(strcmp(text, LDFS_VERSION) == 0, "the version");
 }
 
 int main(void)
 {
+    version();
     sheet_a_at_once();
     sheet_a_carried_on();
     sheet_a_in_steps();

@@ -1,6 +1,6 @@
 /*
- * A plain C copy of the host function, for the benchmark alone: the same bytes, questions, procedure and answers, written as one writes
- * it by hand. It works in place on the sheet's bytes, as the library does. Nothing is proved of it.
+ * A plain C copy of the host function (S9 of docs/SPEC.md), for the benchmark alone: the same bytes, questions, procedure and answers,
+ * written as one writes it by hand. It works in place on the sheet's bytes, as the library does. Nothing is proved of it.
  */
 #include <stdbool.h>
 #include <stddef.h>

@@ -1,4 +1,4 @@
-//! The host function, on byte slices.
+//! The host function, on byte slices (S9).
 
 use crate::ldfs::{work, Outcome};
 use crate::questions::accept;

@@ -1,4 +1,4 @@
-//! LDFS-DRIVER and LDFS of document 002, with a budget of raises.
+//! The driver and the visits of LDFS, with a budget of raises (S6).
 
 use crate::{Sheet, CEILING};
 

@@ -1,4 +1,4 @@
-//! A simple copy of document 002's procedure, LDFS, with document 01's questions, budget and host function.
+//! A simple copy of the procedure, LDFS (S6 of docs/SPEC.md), with the questions (S4), the budget, the host's call (S9) and the listing (S10).
 //!
 //! It reads a sheet into lists, works on those and stores them back. It shares no code with the program `sweep`.
 
@@ -55,7 +55,7 @@ impl Sheet {
 mod tests {
     use super::listing;
 
-    /// The text that document 01 gives for sheet A.
+    /// The whole text for sheet A (S10).
     #[test]
     fn sheet_a() {
         let expected = "settled 500 3 3\nstage 0 check 1 value 500\nstage 3 end value 0\n";

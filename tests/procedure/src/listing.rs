@@ -1,4 +1,4 @@
-//! The text that `price` prints.
+//! The text that `price` prints (S10).
 
 use crate::ldfs::{work, Outcome};
 use crate::questions::accept;

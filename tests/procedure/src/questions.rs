@@ -1,4 +1,4 @@
-//! Questions 2 to 8, each put to the whole sheet before the next.
+//! Questions 2 to 8 (S4.2 to S4.8), each put to the whole sheet before the next.
 
 use crate::reader::{has_head, number16, read};
 use crate::{Sheet, State, CEILING};

@@ -1,4 +1,4 @@
-//! Bytes to a sheet and back. The reader keeps an offset into the bytes and moves it on.
+//! Bytes to a sheet and back (S3). The reader keeps an offset into the bytes and moves it on.
 
 use crate::{Action, Sheet, State};
 

@@ -1,4 +1,4 @@
-//! Least costs of a sheet's states, by one sweep from the last state backwards.
+//! Least costs of a sheet's states (S2 of docs/SPEC.md), by one sweep from the last state backwards.
 //!
 //! This program knows nothing of visits, passes or budgets: it solves the Bellman equation directly. It has its own reader of bytes
 //! and shares no code with the program `procedure`.
@@ -106,7 +106,7 @@ mod tests {
     }
 
     #[test]
-    fn least_costs_of_document_01() {
+    fn least_costs_of_the_worked_examples() {
         assert_eq!(least_cost(include_bytes!("../../../samples/a.sheet")), Ok(500));
         assert_eq!(least_cost(include_bytes!("../../../samples/b-worst.sheet")), Ok(150));
         assert_eq!(least_cost(include_bytes!("../../../samples/b-whole.sheet")), Ok(180));

@@ -1,0 +1,199 @@
+/*
+ * A host to start from: it works a sheet in a file, so many raises at a time, and can be ended and run again at any moment.
+ *
+ *     host [--budget RAISES] [--calls CALLS] [-o FILE] SHEET
+ *
+ * Each call may make RAISES raises (10,000 unless said), and the sheet is saved after each: to SHEET itself, or to FILE, and then SHEET
+ * stays as it is. A worked sheet is again a sheet, so to carry the work on, run the host again on the file that it saved. After CALLS
+ * calls it ends, settled or not. Exit status: 0 where the start is settled, 2 where it is still open, 1 where the sheet is refused or a
+ * file fails.
+ *
+ * C99 with two functions of POSIX (fileno, fsync), and C++11. Built against an installed library (install.sh PREFIX):
+ *
+ *     cc -std=c99 host.c -IPREFIX/include -LPREFIX/lib -lldfs -o host
+ */
+#define _POSIX_C_SOURCE 200809L
+
+#include <ldfs.h>
+
+#include <errno.h>
+#include <inttypes.h>
+#include <stdio.h>
+#include <stdlib.h>
+#include <string.h>
+#include <unistd.h>
+
+enum { DONE = 0, FAILED = 1, STILL_OPEN = 2 };
+
+/* What the host lends to every call. One byte more than the longest sheet, so that a longer file is refused and not cut. */
+static uint8_t sheet[LDFS_SHEET_MOST + 1];
+static uint8_t table[LDFS_TABLE_LEAST];
+static uint8_t result[LDFS_RESULT_LEAST];
+
+/* Refusals in words, by their numbers. */
+static const char *const refusals[] = {
+    "",
+    "the table or the result is too short",
+    "the sheet has fewer than 20 bytes or more than 60,000",
+    "the head is damaged, or names a kind, a number of stages or a start that cannot be",
+    "a field is out of place, missing or left over",
+    "a cost, a value, a mark or a chosen check is out of its range",
+    "a check's findings do not ascend, or lead back, or lead to no stage",
+    "a value is above its ending's cost, or above the price of one of its junction's checks",
+    "a stage is marked settled and cannot be",
+    "the sheet is valid, and the budget is 0",
+};
+
+/* A number of the sheet, most significant byte first. */
+static uint32_t big(const uint8_t *at, int bytes)
+{
+    uint32_t x = 0;
+    for (int i = 0; i < bytes; i++)
+        x = x << 8 | at[i];
+    return x;
+}
+
+/* A number of the table or the result, least significant byte first. */
+static uint64_t little(const uint8_t *at, int bytes)
+{
+    uint64_t x = 0;
+    for (int i = bytes; i > 0; i--)
+        x = x << 8 | at[i - 1];
+    return x;
+}
+
+/* Says what failed. The answer is "no". */
+static int failure(const char *name)
+{
+    fprintf(stderr, "host: %s: %s\n", name, errno != 0 ? strerror(errno) : "failed");
+    return 0;
+}
+
+static int load(const char *name, size_t *length)
+{
+    errno = 0;
+    FILE *file = fopen(name, "rb");
+    if (file == NULL)
+        return failure(name);
+    *length = fread(sheet, 1, sizeof sheet, file);
+    int good = !ferror(file) || failure(name);
+    fclose(file);
+    return good;
+}
+
+/* The sheet goes to a file of its own, which then takes the place of the old one in one step (rename): whenever the host or the machine
+   ends, the file named holds the sheet of before or this one, and never a part of it. */
+static int save(const char *name, size_t length)
+{
+    char temporary[4096];
+    errno = 0;
+    int written = snprintf(temporary, sizeof temporary, "%s.tmp", name);
+    if (written < 0 || (size_t)written >= sizeof temporary)
+        return failure("the name of the file is too long");
+    FILE *file = fopen(temporary, "wb");
+    if (file == NULL)
+        return failure(temporary);
+    int good = (fwrite(sheet, 1, length, file) == length && fflush(file) == 0 && fsync(fileno(file)) == 0) || failure(temporary);
+    if (fclose(file) != 0 && good)
+        good = failure(temporary);
+    return good && (rename(temporary, name) == 0 || failure(name));
+}
+
+/* The end of a check's field, which is where the next field begins. */
+static const uint8_t *past(const uint8_t *check)
+{
+    return check + LDFS_FIELD_CONTENT + big(check + LDFS_FIELD_LENGTH, 2);
+}
+
+/* The plan of a settled sheet: the stages that it reaches from the start, ascending. Findings lead to stages of higher numbers, so one
+   walk upwards meets each stage after all that lead to it. The index table, as the last call left it, says where each stage's field is. */
+static void print_plan(void)
+{
+    unsigned char reached[LDFS_STAGES_MOST] = {0};
+    uint32_t stages = big(sheet + LDFS_HEAD_STAGES, 2), start = big(sheet + LDFS_HEAD_START, 2);
+    reached[start] = 1;
+    for (uint32_t stage = start; stage < stages; stage++) {
+        const uint8_t *field = sheet + little(table + LDFS_ENTRY_BYTES * stage, LDFS_ENTRY_BYTES);
+        if (!reached[stage])
+            continue;
+        if (field[0] == LDFS_ENDING_TAG) {
+            printf("stage %" PRIu32 " end value %" PRIu32 "\n", stage, big(field + LDFS_ENDING_VALUE, 4));
+            continue;
+        }
+        const uint8_t *check = field + LDFS_JUNCTION_CHECKS;
+        for (int i = 0; i < field[LDFS_JUNCTION_CHOSEN]; i++)
+            check = past(check);
+        printf("stage %" PRIu32 " check %d value %" PRIu32 "\n", stage, field[LDFS_JUNCTION_CHOSEN], big(field + LDFS_JUNCTION_VALUE, 4));
+        for (const uint8_t *finding = check + LDFS_CHECK_FINDINGS; finding < past(check); finding += 2)
+            reached[big(finding, 2)] = 1;
+    }
+}
+
+/* One call, and how it ended. The number it returned is the answer. */
+static uint32_t work(size_t length, uint64_t budget)
+{
+    uint32_t number = ldfs_solve(sheet, length, table, sizeof table, budget, result, sizeof result);
+    uint64_t price = little(result + LDFS_RESULT_PRICE, 8);
+    uint64_t passes = little(result + LDFS_RESULT_PASSES, 8), raises = little(result + LDFS_RESULT_RAISES, 8);
+    if (number < LDFS_SETTLED)
+        printf("refused %" PRIu32 ": %s\n", number, refusals[number]);
+    else
+        printf("%s %" PRIu64 " cents (passes %" PRIu64 ", raises %" PRIu64 ")\n",
+               number == LDFS_SETTLED ? "settled: the least cost is"
+               : number == LDFS_OVER  ? "over: every plan costs at least"
+                                      : "stopped: every plan costs at least",
+               price, passes, raises);
+    fflush(stdout);
+    return number;
+}
+
+static int usage(void)
+{
+    fprintf(stderr, "usage: host [--budget RAISES] [--calls CALLS] [-o FILE] SHEET\n");
+    return FAILED;
+}
+
+/* A number of the command line: digits, and no more than 64 bits hold. */
+static int number_of(const char *text, uint64_t *number)
+{
+    char *end = NULL;
+    errno = 0;
+    *number = strtoull(text, &end, 10);
+    return text[0] >= '0' && text[0] <= '9' && *end == '\0' && errno == 0;
+}
+
+int main(int count, char **words)
+{
+    uint64_t budget = 10000, calls = UINT64_MAX;
+    const char *from = NULL, *to = NULL;
+    for (int i = 1; i < count; i++) {
+        int more = i + 1 < count;
+        if (strcmp(words[i], "--budget") == 0 && more && number_of(words[i + 1], &budget))
+            i++;
+        else if (strcmp(words[i], "--calls") == 0 && more && number_of(words[i + 1], &calls))
+            i++;
+        else if (strcmp(words[i], "-o") == 0 && more)
+            to = words[++i];
+        else if (words[i][0] != '-' && from == NULL)
+            from = words[i];
+        else
+            return usage();
+    }
+    size_t length = 0;
+    if (from == NULL)
+        return usage();
+    if (to == NULL)
+        to = from;
+    if (!load(from, &length))
+        return FAILED;
+    uint32_t number = LDFS_STOPPED;
+    for (uint64_t i = 0; number == LDFS_STOPPED && i < calls; i++) {
+        number = work(length, budget);
+        /* A refused sheet is as it was, and nothing is saved. */
+        if (number < LDFS_SETTLED || !save(to, length))
+            return FAILED;
+    }
+    if (number == LDFS_SETTLED)
+        print_plan();
+    return number == LDFS_STOPPED ? STILL_OPEN : DONE;
+}
