@@ -11,7 +11,8 @@ use Rattle.layout.proofs.Placed.{placed-length, placed-before, placed-after, pl
 use Rattle.host.specs.Host.{le32, le64, entryBytes, lengthened}
 
 -- four stores, one after the other, of a number's bytes
-pub stored : (s : List ℕ) (at x a b c d : ℕ) → at + 4 ≤ length s → a ≡ x % 256 → b ≡ x / 256 % 256 → c ≡ x / 65536 % 256 →
+pub stored : (s : List ℕ) (at x a b c d : ℕ) → at + 4 ≤ length s → a ≡ x % 256 → b ≡ x / 256 % 256 →
+    c ≡ x / 65536 % 256 →
     d ≡ x / 16777216 % 256 → set (set (set (set s at a) (at + 1) b) (at + 2) c) (at + 3) d ≡ placed at (le32 x) s
 stored s at x a b c d h p q r t =
     let one : at + 1 ≡ suc at = omega arith in
@@ -20,7 +21,8 @@ stored s at x a b c d h p q r t =
     rw (one, two, three, p, q, r, t) (sets-eq (le32 x) s at h ∙ append-assoc (take at s) (le32 x) (drop (at + 4) s))
 
 -- three numbers of eight bytes from the start
-pub three-put : (s s′ s″ s‴ : List ℕ) (x y z : ℕ) → 24 ≤ length s → s′ ≡ placed 0 (le64 x) s → s″ ≡ placed 8 (le64 y) s′ →
+pub three-put : (s s′ s″ s‴ : List ℕ) (x y z : ℕ) → 24 ≤ length s → s′ ≡ placed 0 (le64 x) s →
+    s″ ≡ placed 8 (le64 y) s′ →
     s‴ ≡ placed 16 (le64 z) s″ → s‴ ≡ placed 0 (le64 x ++ (le64 y ++ le64 z)) s
 three-put s s′ s″ s‴ x y z h p q r =
     let long : length s′ ≡ length s = ap length p ∙ placed-length s 0 (le64 x) (omega arith) in

@@ -121,4 +121,5 @@ module _ (s t : List ℕ) (budget : ℕ) (r : List ℕ) where
         let answer : a ≡ answerTo s n budget = answered ∙ rw length-replicate (same-answer s budget m n enough le) in
         let sheet : s′ ≡ bytesAfter s n budget = written ∙ rw length-replicate (same-bytes s budget m n enough le) in
         let table = same-table s budget m n enough le in
-        rw (le-leb 24 (length r) room, le-leb maxStates n (omega arith), table, ← answer, ← sheet, ← filled-in) (e, (refl, (put, told)))
+        rw (le-leb 24 (length r) room, le-leb maxStates n (omega arith), table, ← answer, ← sheet, ← filled-in)
+        (e, (refl, (put, told)))

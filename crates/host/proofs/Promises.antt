@@ -91,6 +91,7 @@ pub host-keeps : {s : List ℕ} {calls : List Call} → Accepted s → HostedAll
 host-keeps acc made = demand3 acc (host-calls acc made)
 
 -- S8.11: budgets above the gaps at the outset leave the start settled
-pub host-ends : {s : List ℕ} {calls : List Call} → Accepted s → HostedAll s calls → gaps (problemOf s) (cellsOf s) < budgetsIn calls →
+pub host-ends : {s : List ℕ} {calls : List Call} → Accepted s → HostedAll s calls →
+    gaps (problemOf s) (cellsOf s) < budgetsIn calls →
     solved (startCell s (left s calls)) ≡ true
 host-ends acc made = work-ends acc (host-calls acc made)

@@ -44,7 +44,8 @@ fn put64(s: &mut [u8], at: usize, x: u64)
 // Price, passes and raises become the first 24 bytes of the result.
 fn put_answer(result: &mut [u8], a: Answer)
     requires { ⌜ resultBytes ≤ length (now result) ⌝ }
-    ensures { λ _. ⌜ now (result .exit) ≡ placed 0 (le64 (a .price) ++ (le64 (a .passes) ++ le64 (a .raises))) (now (result .entry)) ⌝ }
+    ensures { λ _. ⌜ now (result .exit) ≡
+        placed 0 (le64 (a .price) ++ (le64 (a .passes) ++ le64 (a .raises))) (now (result .entry)) ⌝ }
 {
     put64(result, 0, a.price);
     put64(result, 8, a.passes);
@@ -100,7 +101,8 @@ pub extern "C" fn ldfs_solve(
     ensures number { λ r. ⌜ r ≡ hostNumber (now (sheet .entry)) (now (table .entry)) budget (now (result .entry)) ⌝ }
     ensures sheet { λ _. ⌜ now (sheet .exit) ≡ hostSheet (now (sheet .entry)) (now (table .entry)) budget (now (result .entry)) ⌝ }
     ensures table { λ _. ⌜ now (table .exit) ≡ hostTable (now (sheet .entry)) (now (table .entry)) budget (now (result .entry)) ⌝ }
-    ensures result { λ _. ⌜ now (result .exit) ≡ hostResult (now (sheet .entry)) (now (table .entry)) budget (now (result .entry)) ⌝ }
+    ensures result { λ _. ⌜ now (result .exit) ≡
+        hostResult (now (sheet .entry)) (now (table .entry)) budget (now (result .entry)) ⌝ }
 {
     if result.len() < RESULT_BYTES {
         return ROOM;

@@ -82,7 +82,8 @@ terminal-fits : (cost : ℕ) (c : Cell) (r : List ℕ) → terminalFits (nodeByt
 unfolding terminalFits nodeBytes be16 all
 terminal-fits cost c r = rw (le-leb 12 (length (nodeBytes (terminal cost) c ++ r)) (omega arith))
 
-header-fits : (acts : List Action) (c : Cell) (r : List ℕ) → 1 ≤ length acts → headerFits (nodeBytes (decision acts) c ++ r) ≡ true
+header-fits : (acts : List Action) (c : Cell) (r : List ℕ) → 1 ≤ length acts →
+    headerFits (nodeBytes (decision acts) c ++ r) ≡ true
 unfolding headerFits nodeBytes be16 all
 header-fits acts c r some = rw (le-leb 9 (length (nodeBytes (decision acts) c ++ r)) (omega arith), first-tag acts r some)
 

@@ -59,7 +59,8 @@ unfolding successorsRead
 successors-count zero r = refl
 successors-count (suc n) r = ap suc (successors-count n (drop 2 r))
 
-successors-same : (n : ℕ) (r : List ℕ) → Bytes r → 2 * n ≤ length r → r ≡ successorsBytes (successorsRead n r) ++ drop (2 * n) r
+successors-same : (n : ℕ) (r : List ℕ) → Bytes r → 2 * n ≤ length r →
+    r ≡ successorsBytes (successorsRead n r) ++ drop (2 * n) r
 unfolding successorsRead successorsBytes
 successors-same zero r byte le = refl
 successors-same (suc n) r byte le =
@@ -78,7 +79,8 @@ action-few : (r : List ℕ) → actionFits r ≡ true → FewSuccessors (actionR
 unfolding actionRead
 action-few r fits = simp successors-count (omega (arith, action-parts r fits))
 
-action-same : (r : List ℕ) → Bytes r → tag r ≡ actionTag → actionFits r ≡ true → r ≡ actionBytes (actionRead r) ++ drop (3 + be16 r 1) r
+action-same : (r : List ℕ) → Bytes r → tag r ≡ actionTag → actionFits r ≡ true →
+    r ≡ actionBytes (actionRead r) ++ drop (3 + be16 r 1) r
 unfolding actionRead
 action-same r byte is fits =
     let parts = action-parts r fits in
@@ -93,7 +95,8 @@ action-same r byte is fits =
 -- Induction on actions in place at the front of r, of which there may be m: no more may stand there, no more does, or one does with others
 -- behind it.
 module _
-    (P : ℕ → List ℕ → Type 0) (full : (r : List ℕ) → P 0 r) (done : (m : ℕ) (r : List ℕ) → eqb (tag r) actionTag ≡ false → P (suc m) r)
+    (P : ℕ → List ℕ → Type 0) (full : (r : List ℕ) → P 0 r)
+    (done : (m : ℕ) (r : List ℕ) → eqb (tag r) actionTag ≡ false → P (suc m) r)
     (more : (m : ℕ) (r : List ℕ) → tag r ≡ actionTag → actionFits r ≡ true → P m (drop (3 + be16 r 1) r) → P (suc m) r)
   where
     pub along-actions : (m : ℕ) (r : List ℕ) → actionsGood m r ≡ true → P m r
@@ -113,7 +116,8 @@ actions-same =
     let one = action-same r byte is fits in let others = ih (bytes-drop (3 + be16 r 1) r byte) in
     rw (is, append-assoc, ← drop-drop (actionsLong m (drop (3 + be16 r 1) r))) (cc))
 
-actions-shaped : (m : ℕ) (r : List ℕ) → actionsGood m r ≡ true → ActionsShaped (actionsRead m r) × (length (actionsRead m r) ≤ m)
+actions-shaped : (m : ℕ) (r : List ℕ) → actionsGood m r ≡ true →
+    ActionsShaped (actionsRead m r) × (length (actionsRead m r) ≤ m)
 unfolding actionsRead
 actions-shaped =
     along-actions (λ m r. ActionsShaped (actionsRead m r) × (length (actionsRead m r) ≤ m))
@@ -165,7 +169,8 @@ record Written (n : ℕ) (r : List ℕ) (ns : List Node) (cells : List Cell) : T
   chosen : (s : ℕ) → s < length ns → ChosenShaped (getD ns s (terminal 0)) (cellOf cells s)
 
 written-cons : {n : ℕ} {r rest : List ℕ} {m : Node} {c : Cell} {ns : List Node} {cells : List Cell} →
-    r ≡ nodeBytes m c ++ rest → NodeShaped m → ChosenShaped m c → Written n rest ns cells → Written (suc n) r (m ∷ ns) (c ∷ cells)
+    r ≡ nodeBytes m c ++ rest → NodeShaped m → ChosenShaped m c → Written n rest ns cells →
+    Written (suc n) r (m ∷ ns) (c ∷ cells)
 unfolding nodesBytes
 written-cons {m} {c} {ns} {cells} e shaped chosen w = record {
   same = cc;
@@ -204,7 +209,8 @@ nodes-written (suc n) r byte good = by-tag (eqb (tag r) terminalTag) refl (nodes
 
 -- question 3, in numbers
 pub head-says : (bs : List ℕ) → question3 bs ≡ true →
-    (tag bs ≡ headTag) × (be16 bs 1 ≡ headLength) × (8 ≤ length bs) × (getD bs 3 0 ≤ 1) × (1 ≤ be16 bs 4) × (be16 bs 4 ≤ maxStates) ×
+    (tag bs ≡ headTag) × (be16 bs 1 ≡ headLength) × (8 ≤ length bs) × (getD bs 3 0 ≤ 1) ×
+    (1 ≤ be16 bs 4) × (be16 bs 4 ≤ maxStates) ×
     (be16 bs 6 < be16 bs 4)
 unfolding question3
 head-says bs head = omega (arith, eqb-true, leb-true, ltb-true, all-true _ head)

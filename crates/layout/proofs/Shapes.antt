@@ -18,7 +18,8 @@ node-shaped [] h s = tt
 node-shaped (n ∷ ns) h zero = h .0
 node-shaped (n ∷ ns) h (suc s) = node-shaped ns (h .1) s
 
-pub action-shaped : (acts : List Action) (k : ℕ) → k < length acts → ActionsShaped acts → FewSuccessors (actionAt acts k .successors)
+pub action-shaped : (acts : List Action) (k : ℕ) → k < length acts → ActionsShaped acts →
+    FewSuccessors (actionAt acts k .successors)
 action-shaped [] k lt h = absurd (omega arith)
 action-shaped (a ∷ more) zero lt h = h .0
 action-shaped (a ∷ more) (suc k) lt h = action-shaped more k (omega arith) (h .1)

@@ -53,6 +53,7 @@ pub solve-keeps : {s : List ℕ} {calls : List Call} → Accepted s → SolvedAl
 solve-keeps acc made = demand3 acc (solved-calls made)
 
 -- S8.11: budgets above the gaps at the outset leave the start settled
-pub solve-ends : {s : List ℕ} {calls : List Call} → Accepted s → SolvedAll s calls → gaps (problemOf s) (cellsOf s) < budgetsIn calls →
+pub solve-ends : {s : List ℕ} {calls : List Call} → Accepted s → SolvedAll s calls →
+    gaps (problemOf s) (cellsOf s) < budgetsIn calls →
     solved (startCell s (left s calls)) ≡ true
 solve-ends acc made = work-ends acc (solved-calls made)

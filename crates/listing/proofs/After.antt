@@ -50,7 +50,8 @@ module _ (s t : List ℕ) (budget : ℕ) (bytes : Bytes s) where
       go (suc n) r = let a = answer-refused s (length t) budget n r in let z : _≡_ {A = ℕ} 0 1 = cc in absurd (omega arith)
 
   -- and as `solve` left them
-  pub solved-worked : (a : Answer) (s′ t′ : List ℕ) → Solved s t budget a s′ t′ → a .outcome ≡ Settled → Listable s′ t′
+  pub solved-worked : (a : Answer) (s′ t′ : List ℕ) → Solved s t budget a s′ t′ → a .outcome ≡ Settled →
+      Listable s′ t′
   solved-worked a s′ t′ h e = rw (h .1 .0, h .1 .1) (settled-worked (sym (ap (λ (x : Answer). x .outcome) (h .0)) ∙ e))
 
 -- what `list` promises of its answer, of the sheet, of the table and of the buffer
@@ -63,7 +64,8 @@ module _ (s t out : List ℕ) where
   unfolding listedAs sheetListed tableListed textListed
   too-short h = rw (lt-leb enough (length out) h) (refl, (refl, (refl, refl)))
 
-  pub written : enough ≤ length out → (a : Answer) (s′ t′ : List ℕ) → Solved s t largest a s′ t′ → {mid out′ : List ℕ} {next end : ℕ} →
+  pub written : enough ≤ length out → (a : Answer) (s′ t′ : List ℕ) → Solved s t largest a s′ t′ →
+      {mid out′ : List ℕ} {next end : ℕ} →
       Wrote out mid 0 next (lineOne a) → Wrote mid out′ next end (planOf (a .outcome) s′) →
       Leaves s t out (Written end (a .outcome)) s′ t′ out′
   unfolding listedAs sheetListed tableListed textListed listing

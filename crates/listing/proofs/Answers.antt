@@ -19,7 +19,8 @@ use Rattle.listing.specs.Listing.{listing, enough, listedAs, textListed}
 module _ (s t out : List ℕ) (n : ℕ) (o : Outcome) where
   -- where a buffer of any length gets a text, the text has the length that is answered, and the outcome is the call's
   given : (long : Bool) →
-      Written n o ≡ fork long (λ _. Written (length (listing s (length t))) (answerTo s (length t) largest .outcome)) (λ _. TooShort) →
+      Written n o ≡
+      fork long (λ _. Written (length (listing s (length t))) (answerTo s (length t) largest .outcome)) (λ _. TooShort) →
       (long ≡ true) × ((n ≡ length (listing s (length t))) × (o ≡ answerTo s (length t) largest .outcome))
   given true e = (refl, (cc, cc))
   given false e = let z : _≡_ {A = ℕ} 0 1 = cc in absurd (omega arith)

@@ -11,7 +11,8 @@ use Rattle.listing.specs.Listing.{field, choiceOf}
 use Rattle.listing.specs.Put.{Wrote}
 
 module _ {s t : List ℕ} {i : ℕ} (c : Cell) {out out′ : List ℕ} {at next : ℕ} where
-  pub wrote-end : Terminal s t i → Wrote out out′ at next (ascii " end") → Wrote out out′ at next (choiceOf (nodeAt (problemOf s) i) c)
+  pub wrote-end : Terminal s t i → Wrote out out′ at next (ascii " end") →
+      Wrote out out′ at next (choiceOf (nodeAt (problemOf s) i) c)
   wrote-end h w = rw (is-terminal (nodeAt (problemOf s) i) (h .tag)) w
 
   pub wrote-check : Decision s t i → (x : ℕ) → x ≡ c .chosen → Wrote out out′ at next (field (ascii " check ") x) →

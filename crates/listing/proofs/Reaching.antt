@@ -47,7 +47,8 @@ module _ (f : List Bool) (ts : List ℕ) (j m : ℕ) (count : m ≡ length ts) w
   flagged-room lt g e t is below = rw (e, flagged-length f (take j ts), is) (below j (omega arith))
 
 -- which flags are up then
-pub flagged-at : (f : List Bool) (ts : List ℕ) (t : ℕ) → t < length f → getD (flagged f ts) t false ≡ (getD f t false || listed t ts)
+pub flagged-at : (f : List Bool) (ts : List ℕ) (t : ℕ) → t < length f →
+    getD (flagged f ts) t false ≡ (getD f t false || listed t ts)
 unfolding flagged listed
 flagged-at f [] t lt = sym (or-false (getD f t false))
 flagged-at f (u ∷ ts) t lt = flagged-at (set f u true) ts t (rw length-set lt) ∙ go (eqb t u) refl (getD f t false) refl
@@ -60,8 +61,8 @@ flagged-at f (u ∷ ts) t lt = flagged-at (set f u true) ts t (rw length-set lt)
     go false e false k = rw (getD-set-other f u t true false (eqb-false t u e), k)
 
 -- a state of a sheet that can be listed
-pub stage : {s t : List ℕ} {i : ℕ} → Listable s t → i < states (problemOf s) → Within s t i
-stage w lt = record { sheet = w .sheet; below = lt }
+pub state-within : {s t : List ℕ} {i : ℕ} → Listable s t → i < states (problemOf s) → Within s t i
+state-within w lt = record { sheet = w .sheet; below = lt }
 
 -- The action that is chosen at a decision of one.
 module _ {s t : List ℕ} (w : Listable s t) {i : ℕ} (d : Decision s t i) (k : ℕ) (is : k ≡ cellOf (cellsOf s) i .chosen) where
@@ -105,7 +106,8 @@ pub record Lined (p : Problem) (cells : List Cell) (n m : ℕ) (out₀ : List �
   pub up : (t : ℕ) → t < n → getD flags t false ≡ reachedBelow p cells s t
 
 module _ (p : Problem) (cells : List Cell) (n m : ℕ) (out₀ : List ℕ) (at : ℕ) where
-  pub lined-none : (flags : List Bool) → length flags ≡ m → ((t : ℕ) → t < n → getD flags t false ≡ reachedBelow p cells 0 t) →
+  pub lined-none : (flags : List Bool) → length flags ≡ m →
+      ((t : ℕ) → t < n → getD flags t false ≡ reachedBelow p cells 0 t) →
       at ≤ length out₀ → Lined p cells n m out₀ at flags out₀ at 0
   unfolding stateLines
   lined-none flags wide up room = record { upto = omega arith; text = wrote-none out₀ at room; most = omega arith; wide = wide; up = up }
@@ -120,7 +122,8 @@ module _ (p : Problem) (cells : List Cell) (n m : ℕ) (out₀ : List ℕ) (at :
     module _ (lt : s < n) (le : n ≤ m) where
       pub lined-state : getD flags s false ≡ true →
           {out′ : List ℕ} {next′ : ℕ} → Wrote out out′ next next′ (stateLine p cells s) → next′ ≤ next + 81 →
-          {flags′ : List Bool} → flags′ ≡ flagged flags (chosenSuccessors p cells s) → Lined p cells n m out₀ at flags′ out′ next′ (s + 1)
+          {flags′ : List Bool} → flags′ ≡ flagged flags (chosenSuccessors p cells s) →
+          Lined p cells n m out₀ at flags′ out′ next′ (s + 1)
       unfolding stateLines reachedBelow also
       lined-state e {out′} {next′} w few {flags′} up = record {
         upto = omega arith;

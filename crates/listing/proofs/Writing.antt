@@ -101,12 +101,14 @@ module _ (s s′ : List ℕ) (at next x b : ℕ) (digit : b ≡ lastDigit x) whe
   pub one-digit : Wrote s s′ at next (b ∷ []) → x < 10 → Wrote s s′ at next (decimal x)
   one-digit w h = rw (decimal-one x h, ← digit) w
 
-  pub more-digits : (s₀ : List ℕ) (at₀ : ℕ) → Wrote s₀ s at₀ at (decimal (x / 10)) → Wrote s s′ at next (b ∷ []) → 10 ≤ x →
+  pub more-digits : (s₀ : List ℕ) (at₀ : ℕ) → Wrote s₀ s at₀ at (decimal (x / 10)) → Wrote s s′ at next (b ∷ []) →
+      10 ≤ x →
       Wrote s₀ s′ at₀ next (decimal x)
   more-digits s₀ at₀ v w h = rw (decimal-more x h, ← digit) (wrote-behind v w)
 
 -- a number has room behind a word
-pub number-room : {s s′ w : List ℕ} {at next : ℕ} (x : ℕ) → Wrote s s′ at next w → x < 2 ^ 64 → at + length w + 20 ≤ length s →
+pub number-room : {s s′ w : List ℕ} {at next : ℕ} (x : ℕ) → Wrote s s′ at next w → x < 2 ^ 64 →
+    at + length w + 20 ≤ length s →
     next + length (decimal x) ≤ length s′
 number-room x w h room = omega (arith, w .behind, wrote-length w, decimal-few x h)
 

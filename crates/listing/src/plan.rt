@@ -64,7 +64,8 @@ fn put_states(
 ) -> usize
     requires { ⌜ Listable (now sheet) (now table) ⌝ }
     requires { ⌜ (n ≡ states (problemOf (now sheet))) × (n ≤ length (now flags)) ⌝ }
-    requires { ⌜ ((t : ℕ) → t < n → getD (now flags) t false ≡ reachedBelow (problemOf (now sheet)) (cellsOf (now sheet)) 0 t) ⌝ }
+    requires { ⌜ ((t : ℕ) → t < n →
+        getD (now flags) t false ≡ reachedBelow (problemOf (now sheet)) (cellsOf (now sheet)) 0 t) ⌝ }
     requires { ⌜ at + maxStateLine * n ≤ length (now out) ⌝ }
     ensures { λ r. ⌜ Wrote (now (out .entry)) (now (out .exit)) at r
         (stateLines (problemOf (now (sheet .entry))) (cellsOf (now (sheet .entry))) n) ⌝ }

@@ -29,7 +29,8 @@ record Numbered (low : ℕ) (asked : Question) (more : List Question) : Type 0 w
   below : asked .number < 100
   rest : numbered low more ≡ true
 
-numbered-first : (low : ℕ) (asked : Question) (more : List Question) → numbered low (asked ∷ more) ≡ true → Numbered low asked more
+numbered-first : (low : ℕ) (asked : Question) (more : List Question) → numbered low (asked ∷ more) ≡ true →
+    Numbered low asked more
 numbered-first low asked more h = go (leb low (asked .number)) refl (ltb (asked .number) 100) refl h
   where
     go : (a : Bool) → leb low (asked .number) ≡ a → (b : Bool) → ltb (asked .number) 100 ≡ b →

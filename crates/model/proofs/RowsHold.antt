@@ -41,7 +41,11 @@ unfolding same
 same-is [] [] h = refl
 same-is [] (y ∷ ys) h = never h
 same-is (x ∷ xs) [] h = never h
-same-is (x ∷ xs) (y ∷ ys) h = let g = also-true _ _ h in let e : x ≡ y = eqb-true _ _ (g .0) in let r : xs ≡ ys = same-is xs ys (g .1) in cc
+same-is (x ∷ xs) (y ∷ ys) h =
+    let g = also-true _ _ h in
+    let e : x ≡ y = eqb-true _ _ (g .0) in
+    let r : xs ≡ ys = same-is xs ys (g .1) in
+    cc
 
 passes-says : (s : List ℕ) (entries budget : ℕ) (e : Expected) → passes s entries budget e ≡ true → Says s entries budget e
 unfolding passes Says

@@ -23,6 +23,6 @@ maxSuccessors = 16
 abbrev pub maxCost : ℕ
 maxCost = 1000000
 
--- S2.7: the ceiling, which any value or price above it counts as
+-- S2.7: the ceiling, which a price or a least cost above it counts as
 unfoldable pub ceiling : ℕ
 ceiling = 1000000000

@@ -14,13 +14,15 @@ Policy = ℕ → Option ℕ
 -- S2.1: t is reached from s by the plan's own choices
 pub data Reach (p : Problem) (π : Policy) : ℕ → ℕ → Type 0 where
   arrived : {s : ℕ} → Reach p π s s
-  onward : {s u t i : ℕ} {acts : List Action} → nodeAt p s ≡ decision acts → π s ≡ some i → u ∈ actionAt acts i .successors →
+  onward : {s u t i : ℕ} {acts : List Action} → nodeAt p s ≡ decision acts → π s ≡ some i →
+      u ∈ actionAt acts i .successors →
       Reach p π u t → Reach p π s t
 
 -- S2.2, complete from a stage: every junction that is reached is covered, by a check that exists
 abbrev pub Closed : Problem → Policy → ℕ → Type 0
 Closed p π s =
-    (t : ℕ) (acts : List Action) → Reach p π s t → nodeAt p t ≡ decision acts → (i : ℕ) × (π t ≡ some i) × (i < length acts)
+    (t : ℕ) (acts : List Action) → Reach p π s t → nodeAt p t ≡ decision acts →
+    (i : ℕ) × (π t ≡ some i) × (i < length acts)
 
 -- S2.3, the cost of a plan: at an ending the ending's cost, at a junction the chosen check's cost plus the largest, or the sum, of the
 -- plan's cost at its findings; 0 at a junction that is not covered

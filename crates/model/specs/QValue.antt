@@ -4,7 +4,7 @@ use mathlib.Core.List.{List, [], _∷_}
 use Rattle.model.specs.Limits.{ceiling}
 use Rattle.model.specs.Problem.{Kind, worst, whole, Action}
 
--- S2.7: any value or price above the ceiling counts as the ceiling
+-- S2.7: an amount above the ceiling counts as the ceiling
 abbrev pub cut : ℕ → ℕ
 cut x = min x ceiling
 

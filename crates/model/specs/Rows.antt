@@ -103,7 +103,9 @@ doubled zero = cell 1000000 1 0 ∷ []
 doubled (suc i) = cell (min (1000000 * 2 ^ suc i) 1000000000) 1 0 ∷ doubled i
 
 abbrev atCeiling : ℕ → List ℕ
-atCeiling m = write (problem whole 0 (decision (action 1 (upFrom 1 m) ∷ []) ∷ doubling 1 (9 + m))) (cell 1000000000 1 0 ∷ doubled (9 + m))
+atCeiling m =
+    write (problem whole 0 (decision (action 1 (upFrom 1 m) ∷ []) ∷ doubling 1 (9 + m)))
+    (cell 1000000000 1 0 ∷ doubled (9 + m))
 
 -- a row with a table of as many entries as are needed
 abbrev row : List ℕ → ℕ → Expected → Row

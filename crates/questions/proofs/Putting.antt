@@ -30,6 +30,7 @@ module _ (p : Problem) (cells : List Cell) (question : Question) (before : Befor
       in-range : question5 p cells ≡ true
       in-range = subst (λ (x : Question). Before x p cells) e before .0
 
-      go : (n : Node) → chosenInRange n (cellOf cells s) ≡ true → 0 < length (actionsOf n) → cellOf cells s .chosen < length (actionsOf n)
+      go : (n : Node) → chosenInRange n (cellOf cells s) ≡ true → 0 < length (actionsOf n) →
+          cellOf cells s .chosen < length (actionsOf n)
       go (terminal cost) h some = absurd (omega arith)
       go (decision acts) h some = ltb-true _ _ (rw sol at h)

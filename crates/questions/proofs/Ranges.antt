@@ -69,7 +69,8 @@ module _ (n : Node) (c : Cell) where
             at-decision : chosenInRange n c ≡ fork (solved c) (λ _. ltb (c .chosen) (length (actionsOf n))) (λ _. eqb (c .chosen) 0)
             at-decision = ap (λ (x : Node). chosenInRange x c) node
 
-            go : (b : Bool) → costsInRange n ≡ b → fork (solved c) (λ _. ltb (c .chosen) m) (λ _. eqb (c .chosen) 0) ≡ rangesAt n c
+            go : (b : Bool) → costsInRange n ≡ b →
+                fork (solved c) (λ _. ltb (c .chosen) m) (λ _. eqb (c .chosen) 0) ≡ rangesAt n c
             go true e = rw (e, cell-is, by-count true e) (sym at-decision ∙ sym (all-one (chosenInRange n c)))
             go false e = absurd (some (by-count false e))
 

@@ -49,7 +49,8 @@ module _ (s : List ℕ) (o n : ℕ) (le : o ≤ length s) (is : n ≡ be16 s (o 
   unfolding terminalFits all
   terminal-no e = rw (here, ne-eqb n 9 e)
 
-  pub header-yes : getD s o 0 ≡ 3 → n ≡ 6 → o + 9 ≤ length s → (b : ℕ) → b ≡ getD s (o + 9) 0 → eqb b 4 ≡ headerFits (drop o s)
+  pub header-yes : getD s o 0 ≡ 3 → n ≡ 6 → o + 9 ≤ length s → (b : ℕ) → b ≡ getD s (o + 9) 0 →
+      eqb b 4 ≡ headerFits (drop o s)
   unfolding headerFits all
   header-yes t e l b be =
       let room = le-leb 9 (length s - o) (omega arith) in
@@ -137,7 +138,8 @@ module _ (s : List ℕ) (o n : ℕ) where
   left-one lt = omega arith
 
   module _ (lt : n < maxActions) (t : getD s o 0 ≡ 4) (l : ℕ) (e : l ≡ 3 + be16 (drop o s) 1) where
-    more-good : actionFits (drop o s) ≡ true → actionsGood (maxActions - n) (drop o s) ≡ actionsGood (maxActions - (n + 1)) (drop (o + l) s)
+    more-good : actionFits (drop o s) ≡ true →
+        actionsGood (maxActions - n) (drop o s) ≡ actionsGood (maxActions - (n + 1)) (drop (o + l) s)
     unfolding actionsGood also
     more-good f = rw (left-one lt, ← getD-from s o, t, f, ← e, drop-drop l o s)
 
@@ -145,7 +147,8 @@ module _ (s : List ℕ) (o n : ℕ) where
     unfolding actionsLong
     more-long = rw (left-one lt, ← getD-from s o, t, ← e, drop-drop l o s) (omega arith)
 
-  pub bad-action : n < maxActions → getD s o 0 ≡ 4 → actionFits (drop o s) ≡ false → actionsGood (maxActions - n) (drop o s) ≡ false
+  pub bad-action : n < maxActions → getD s o 0 ≡ 4 → actionFits (drop o s) ≡ false →
+      actionsGood (maxActions - n) (drop o s) ≡ false
   unfolding actionsGood also
   bad-action lt t f = rw (left-one lt, ← getD-from s o, t, f)
 
@@ -203,7 +206,8 @@ module _ (s : List ℕ) (states i o : ℕ) (lt : i < states) where
     unfolding nodesGood decisionFits also
     actions-bad f g = rw (left-state, ← getD-from s o, ne-eqb (getD s o 0) 2 two, f, drop-drop 9 o s, g)
 
-    pub decision-place : actionsGood maxActions (drop (o + 9) s) ≡ true → (e : ℕ) → o + 9 + actionsLong maxActions (drop (o + 9) s) ≡ e →
+    pub decision-place : actionsGood maxActions (drop (o + 9) s) ≡ true → (e : ℕ) →
+        o + 9 + actionsLong maxActions (drop (o + 9) s) ≡ e →
         offsetsFrom o (nodesRead (states - i) (drop o s)) ≡ o ∷ offsetsFrom e (nodesRead (states - (i + 1)) (drop e s))
     unfolding nodesRead offsetsFrom nodeSize
     decision-place g e ee =
@@ -311,7 +315,8 @@ module _ {s t₀ t : List ℕ} {states at i v : ℕ} (g : Turn s t₀ states t a
             stored o (k .inside) (decision-good s states i at (g .below) two f good o end) place
 
         -- one stands at o that is the 17th, or does not fit
-        pub action-out : getD s o 0 ≡ 4 → (n ≡ maxActions) ⊎ (fieldLength (drop o s) ≡ 0) → nodesGood states (drop 8 s) ≡ false
+        pub action-out : getD s o 0 ≡ 4 → (n ≡ maxActions) ⊎ (fieldLength (drop o s) ≡ 0) →
+            nodesGood states (drop 8 s) ≡ false
         action-out four why = h .good ∙ actions-bad s states i at (g .below) two f (k .good ∙ bad why)
           where
             bad : (n ≡ maxActions) ⊎ (fieldLength (drop o s) ≡ 0) → actionsGood (maxActions - n) (drop o s) ≡ false

@@ -63,7 +63,8 @@ chosen-kept (terminal cost) c c′ e h = e ∙ h
 chosen-kept (decision acts) c c′ e h = tt
 
 -- one cell changed
-pub shaped-set : {p : Problem} {cells : List Cell} → Shaped p cells → (i : ℕ) (c : Cell) → i < states p → ChosenShaped (nodeAt p i) c →
+pub shaped-set : {p : Problem} {cells : List Cell} → Shaped p cells → (i : ℕ) (c : Cell) → i < states p →
+    ChosenShaped (nodeAt p i) c →
     Shaped p (set cells i c)
 shaped-set {p} {cells} h i c lt ch = record {
   some = h .some;
@@ -123,7 +124,8 @@ module _ {s t : List ℕ} {p : Problem} {cells : List Cell} (h : Sheet s t p cel
   pub decision-tag : {i : ℕ} → Decision s t i → tagOf (nodeAt p i) ≡ decisionTag
   decision-tag w = rw problem-is at (w .tag)
 
-pub sheet-length : {s s′ t t′ : List ℕ} {p : Problem} {cells cells′ : List Cell} → Sheet s t p cells → Sheet s′ t′ p cells′ →
+pub sheet-length : {s s′ t t′ : List ℕ} {p : Problem} {cells cells′ : List Cell} → Sheet s t p cells →
+    Sheet s′ t′ p cells′ →
     length s′ ≡ length s
 sheet-length {p} {cells} {cells′} h h′ = rw (h .is, h′ .is) (write-length p cells′ cells)
 
@@ -147,10 +149,12 @@ module _ {s t : List ℕ} {p : Problem} {cells : List Cell} (h : Sheet s t p cel
   value-place o k here e = omega (arith, long, h .table i lt, value-room p cells i lt)
 
   -- where its value stands
-  pub place-terminal : (o : ℕ) → o ≡ getD t i 0 → getD s o 0 ≡ terminalTag → (o + 7 ≡ valueOffset p i) × (o + 7 + 5 ≤ length s)
+  pub place-terminal : (o : ℕ) → o ≡ getD t i 0 → getD s o 0 ≡ terminalTag →
+      (o + 7 ≡ valueOffset p i) × (o + 7 + 5 ≤ length s)
   place-terminal o here e = value-place o 7 here (terminal-value (nodeAt p i) (sym tag-of ∙ rw here at e))
 
-  pub place-decision : (o : ℕ) → o ≡ getD t i 0 → (getD s o 0 ≡ terminalTag → ⊥) → (o + 3 ≡ valueOffset p i) × (o + 3 + 5 ≤ length s)
+  pub place-decision : (o : ℕ) → o ≡ getD t i 0 → (getD s o 0 ≡ terminalTag → ⊥) →
+      (o + 3 ≡ valueOffset p i) × (o + 3 + 5 ≤ length s)
   place-decision o here e = value-place o 3 here (decision-value (nodeAt p i) (λ y. e (rw here (tag-of ∙ y))))
 
   pub first-action-at : (o : ℕ) → o ≡ getD t i 0 → o + 9 ≡ actionOffset p i 0
@@ -164,7 +168,8 @@ module _ {s t : List ℕ} {p : Problem} {cells : List Cell} (h : Sheet s t p cel
   mark-of = rw (h .is) (mark-at p cells i lt)
 
   -- bytes that write the sheet with another cell
-  with-cell : (s′ : List ℕ) (c : Cell) → s′ ≡ write p (set cells i c) → ChosenShaped (nodeAt p i) c → Sheet s′ t p (set cells i c)
+  with-cell : (s′ : List ℕ) (c : Cell) → s′ ≡ write p (set cells i c) → ChosenShaped (nodeAt p i) c →
+      Sheet s′ t p (set cells i c)
   with-cell s′ c is ch = record { is = is; shaped = shaped-set (h .shaped) i c lt ch; wide = h .wide; table = h .table }
 
   has-cell : i < length cells
@@ -237,7 +242,8 @@ module _ {s t : List ℕ} {p : Problem} {cells : List Cell} (h : Sheet s t p cel
     pub action-stands : k ≤ length (actionsAt p i) → eqb (getD s o 0) actionTag ≡ true → k < length (actionsAt p i)
     action-stands le e =
         let tagged = eqb-true (getD s o 0) actionTag e in
-        let ne : k ≡ length (actionsAt p i) → ⊥ = λ w. after-last p cells i lt (actionsAt p i) node-is (rw (h .is, here, w) at tagged) in
+        let ne : k ≡ length (actionsAt p i) → ⊥ =
+        λ w. after-last p cells i lt (actionsAt p i) node-is (rw (h .is, here, w) at tagged) in
         omega arith
 
     pub action-ends : eqb (getD s o 0) actionTag ≡ false → length (actionsAt p i) ≤ k

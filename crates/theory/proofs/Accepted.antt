@@ -21,16 +21,19 @@ use Rattle.theory.specs.Consistent.{WellFormed, Sound, Consistent}
 use Rattle.theory.specs.Asked.{Asked}
 use Rattle.theory.proofs.Basics.{clash, lt-or-le}
 
-all-solved : (cells : List Cell) (ts : List ℕ) → allSolved cells ts ≡ true → (t : ℕ) → t ∈ ts → solved (cellOf cells t) ≡ true
+all-solved : (cells : List Cell) (ts : List ℕ) → allSolved cells ts ≡ true → (t : ℕ) → t ∈ ts →
+    solved (cellOf cells t) ≡ true
 unfolding allSolved
 all-solved cells [] h t m = absurd (elim m [ ])
 all-solved cells (u ∷ ts) h t m = go t m (all-solved cells ts (also-true _ _ h .1))
   where
-    go : (t : ℕ) → t ∈ (u ∷ ts) → ((t : ℕ) → t ∈ ts → solved (cellOf cells t) ≡ true) → solved (cellOf cells t) ≡ true
+    go : (t : ℕ) → t ∈ (u ∷ ts) → ((t : ℕ) → t ∈ ts → solved (cellOf cells t) ≡ true) →
+        solved (cellOf cells t) ≡ true
     go t here ih = also-true _ _ h .0
     go t (there m) ih = ih t m
 
-solved-all : (cells : List Cell) (ts : List ℕ) → ((t : ℕ) → t ∈ ts → solved (cellOf cells t) ≡ true) → allSolved cells ts ≡ true
+solved-all : (cells : List Cell) (ts : List ℕ) → ((t : ℕ) → t ∈ ts → solved (cellOf cells t) ≡ true) →
+    allSolved cells ts ≡ true
 unfolding allSolved
 solved-all cells [] h = refl
 solved-all cells (t ∷ ts) h = true-also _ _ (h t here) (solved-all cells ts (λ u m. h u (there m)))
@@ -108,7 +111,8 @@ module _ (p : Problem) (cells : List Cell) (h : Asked p cells) where
           eight : fork (solved (cellOf cells s)) (λ _. markEarned p cells s (nodeAt p s)) (λ _. true) ≡ true
           eight = every-true (states p) _ (h .eight) s l
 
-          open-chosen : (n : Node) → nodeAt p s ≡ n → solved (cellOf cells s) ≡ false → chosenInRange n (cellOf cells s) ≡ true →
+          open-chosen : (n : Node) → nodeAt p s ≡ n → solved (cellOf cells s) ≡ false →
+              chosenInRange n (cellOf cells s) ≡ true →
               cellOf cells s .chosen ≡ 0
           open-chosen (terminal cost) e o r = chosen-zero (nodeAt p s) (cellOf cells s) (h .shaped .chosen s l) cost e
           open-chosen (decision acts) e o r = eqb-true _ _ (rw o at r)
@@ -148,7 +152,8 @@ still-asked p first cells h g = record {
     chosen s (terminal cost) e = g .sound s .endless cost e
     chosen s (decision acts) e = tt
 
-    range : (s : ℕ) (n : Node) → nodeAt p s ≡ n → (b : Bool) → solved (cellOf cells s) ≡ b → chosenInRange n (cellOf cells s) ≡ true
+    range : (s : ℕ) (n : Node) → nodeAt p s ≡ n → (b : Bool) → solved (cellOf cells s) ≡ b →
+        chosenInRange n (cellOf cells s) ≡ true
     range s (terminal cost) e b eb = refl
     range s (decision acts) e true eb = rw eb (lt-ltb _ _ (g .sound s .settles acts e eb .exists))
     range s (decision acts) e false eb = rw eb (eq-eqb _ _ (g .sound s .unchosen eb))

@@ -26,7 +26,8 @@ module _ (p : Problem) (wf : WellFormed p) (cells : List Cell) (h : Consistent p
       go : (n : Node) → nodeAt p s ≡ n → valueOf cells s ≤ bellmanCutAt (p .kind) (valueOf cells) n
       go (terminal cost) e = omega (arith, h .sound s .small, h .sound s .under-cost cost e)
       go (decision acts) e =
-          least-above (q (p .kind) (valueOf cells)) acts (valueOf cells s) (wf .has-action s acts e) (λ i l. h .sound s .under-q acts i e l)
+          least-above (q (p .kind) (valueOf cells)) acts (valueOf cells s) (wf .has-action s acts e)
+          (λ i l. h .sound s .under-q acts i e l)
 
   -- admissible
   pub below-optimal : (s : ℕ) → valueOf cells s ≤ cut (optimal p s)
@@ -35,7 +36,8 @@ module _ (p : Problem) (wf : WellFormed p) (cells : List Cell) (h : Consistent p
       downward (λ s. valueOf cells s ≤ cut (optimal p s)) (states p)
       (λ s ih. omega (arith, monotone s, optimal-cut p wf s, go s ih (nodeAt p s) refl))
     where
-      go : (s : ℕ) → ((t : ℕ) → s < t → t < states p → valueOf cells t ≤ cut (optimal p t)) → (n : Node) → nodeAt p s ≡ n →
+      go : (s : ℕ) → ((t : ℕ) → s < t → t < states p → valueOf cells t ≤ cut (optimal p t)) → (n : Node) →
+          nodeAt p s ≡ n →
           bellmanCutAt (p .kind) (valueOf cells) n ≤ bellmanCutAt (p .kind) (λ t. cut (optimal p t)) n
       go s ih (terminal cost) e = omega arith
       go s ih (decision acts) e =
@@ -66,7 +68,8 @@ module _ (p : Problem) (wf : WellFormed p) (cells : List Cell) (h : Consistent p
       policyCost p (written cells) s ≡ valueOf cells s
   written-costs = downward Costs (states p) (λ s ih e l. go s ih e l (nodeAt p s) refl)
     where
-      go : (s : ℕ) → ((t : ℕ) → s < t → t < states p → Costs t) → solved (cellOf cells s) ≡ true → valueOf cells s < ceiling →
+      go : (s : ℕ) → ((t : ℕ) → s < t → t < states p → Costs t) → solved (cellOf cells s) ≡ true →
+          valueOf cells s < ceiling →
           (n : Node) → nodeAt p s ≡ n → policyCost p (written cells) s ≡ valueOf cells s
       go s ih e l (terminal cost) node = cost-terminal p wf (written cells) s cost node ∙ sym (h .sound s .at-cost cost node e)
       go s ih e l (decision acts) node =

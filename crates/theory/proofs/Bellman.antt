@@ -53,7 +53,8 @@ module _ (p : Problem) (wf : WellFormed p) where
   unfolding bellmanAt
   optimal-terminal s cost e = optimal-solves s ∙ ap (bellmanAt (p .kind) (optimal p)) e
 
-  pub optimal-decision : (s : ℕ) (acts : List Action) → nodeAt p s ≡ decision acts → optimal p s ≡ least (qFull (p .kind) (optimal p)) acts
+  pub optimal-decision : (s : ℕ) (acts : List Action) → nodeAt p s ≡ decision acts →
+      optimal p s ≡ least (qFull (p .kind) (optimal p)) acts
   unfolding bellmanAt
   optimal-decision s acts e = optimal-solves s ∙ ap (bellmanAt (p .kind) (optimal p)) e
 

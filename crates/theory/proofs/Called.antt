@@ -122,7 +122,11 @@ module _ (s : List ℕ) (p : Problem) (cells : List Cell) (h : Stands s p cells)
   }
     where
       fits : (t : ℕ) → FitsField (cellOf cells′ t)
-      fits t = record { value = omega (arith, g .sound t .small); mark = omega (arith, g .sound t .mark); chosen = chosen-fits cells′ g t }
+      fits t = record {
+        value = omega (arith, g .sound t .small);
+        mark = omega (arith, g .sound t .mark);
+        chosen = chosen-fits cells′ g t;
+      }
 
   -- the work of one call, and what the bytes stand for after a call that is not refused
   pub work-done : (budget : ℕ) → Worked p cells budget (work p cells budget)

@@ -23,7 +23,8 @@ ceiling-not-dear p s a f g w e = rw (le-ltb (valueAt w s) (priceAt p w a) (omega
 
 module _ (p : Problem) (budget n s : ℕ) (w : Search) (isOpen : solvedAt w s ≡ false) where
   -- whatever is left of the budget, a terminal that has its cost for a value is marked
-  pub terminal-marked : (cost : ℕ) → nodeAt p s ≡ terminal cost → cost ≡ valueAt w s → visit p budget (suc n) s w ≡ success (marked s 0 w)
+  pub terminal-marked : (cost : ℕ) → nodeAt p s ≡ terminal cost → cost ≡ valueAt w s →
+      visit p budget (suc n) s w ≡ success (marked s 0 w)
   unfolding visit visitOpen update onTest
   terminal-marked cost node e =
       rw (isOpen, node, le-ltb (valueAt w s) cost (omega arith)) (ap (λ (u : Search). success (marked s 0 u)) (store-same s cost w e))

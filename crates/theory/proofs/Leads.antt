@@ -186,7 +186,8 @@ pub record Done (p : Problem) (w : Search) (s i : ℕ) : Type 0 where
   pub at-cost : (cost : ℕ) → nodeAt p s ≡ terminal cost → (i ≡ 0) × (valueAt w s ≡ cost)
   pub exists : (acts : List Action) → nodeAt p s ≡ decision acts → i < length acts
   pub priced : (acts : List Action) → nodeAt p s ≡ decision acts → valueAt w s ≡ priceAt p w (actionAt acts i)
-  pub solves : (acts : List Action) (t : ℕ) → nodeAt p s ≡ decision acts → t ∈ actionAt acts i .successors → solvedAt w t ≡ true
+  pub solves : (acts : List Action) (t : ℕ) → nodeAt p s ≡ decision acts → t ∈ actionAt acts i .successors →
+      solvedAt w t ≡ true
 
 module _ (p : Problem) (budget s i : ℕ) (w : Search) (ready : Ready p budget w) (state : s < states p) (isOpen : solvedAt w s ≡ false)
     (done : Done p w s i) where

@@ -14,7 +14,8 @@ use Rattle.theory.proofs.Basics.{downward}
 use Rattle.theory.proofs.QValueLaws.{qFull-same, qFull-mono, least-below, least-attained}
 use Rattle.theory.proofs.Bellman.{Local, solves, optimal-terminal, optimal-decision}
 
-closed-next : {p : Problem} {π : Policy} {s : ℕ} (acts : List Action) (i t : ℕ) → Closed p π s → nodeAt p s ≡ decision acts → π s ≡ some i →
+closed-next : {p : Problem} {π : Policy} {s : ℕ} (acts : List Action) (i t : ℕ) → Closed p π s →
+    nodeAt p s ≡ decision acts → π s ≡ some i →
     t ∈ actionAt acts i .successors → Closed p π t
 closed-next acts i t closed e c m u acts′ r = closed u acts′ (onward e c m r)
 
@@ -43,9 +44,11 @@ module _ (p : Problem) (wf : WellFormed p) (π : Policy) where
   cost-decision s i acts e c = cost-solves s ∙ (rw (e, c) refl)
 
   pub optimal-least : (s : ℕ) → Closed p π s → optimal p s ≤ policyCost p π s
-  optimal-least = downward (λ s. Closed p π s → optimal p s ≤ policyCost p π s) (states p) (λ s ih closed. go s ih closed (nodeAt p s) refl)
+  optimal-least =
+      downward (λ s. Closed p π s → optimal p s ≤ policyCost p π s) (states p) (λ s ih closed. go s ih closed (nodeAt p s) refl)
     where
-      go : (s : ℕ) → ((t : ℕ) → s < t → t < states p → Closed p π t → optimal p t ≤ policyCost p π t) → Closed p π s →
+      go : (s : ℕ) → ((t : ℕ) → s < t → t < states p → Closed p π t → optimal p t ≤ policyCost p π t) →
+          Closed p π s →
           (n : Node) → nodeAt p s ≡ n → optimal p s ≤ policyCost p π s
       go s ih closed (terminal cost) e = omega (arith, optimal-terminal p wf s cost e, cost-terminal s cost e)
       go s ih closed (decision acts) e =
@@ -82,7 +85,8 @@ greedy p s = choose (nodeAt p s)
     choose (decision acts) = some (leastAt (qFull (p .kind) (optimal p)) acts)
 
 module _ (p : Problem) (wf : WellFormed p) where
-  greedy-at : (s : ℕ) (acts : List Action) → nodeAt p s ≡ decision acts → greedy p s ≡ some (leastAt (qFull (p .kind) (optimal p)) acts)
+  greedy-at : (s : ℕ) (acts : List Action) → nodeAt p s ≡ decision acts →
+      greedy p s ≡ some (leastAt (qFull (p .kind) (optimal p)) acts)
   unfolding greedy
   greedy-at s acts e = rw e
 
@@ -93,7 +97,8 @@ module _ (p : Problem) (wf : WellFormed p) where
   pub greedy-attains : (s : ℕ) → policyCost p (greedy p) s ≡ optimal p s
   greedy-attains = downward (λ s. policyCost p (greedy p) s ≡ optimal p s) (states p) (λ s ih. go s ih (nodeAt p s) refl)
     where
-      go : (s : ℕ) → ((t : ℕ) → s < t → t < states p → policyCost p (greedy p) t ≡ optimal p t) → (n : Node) → nodeAt p s ≡ n →
+      go : (s : ℕ) → ((t : ℕ) → s < t → t < states p → policyCost p (greedy p) t ≡ optimal p t) → (n : Node) →
+          nodeAt p s ≡ n →
           policyCost p (greedy p) s ≡ optimal p s
       go s ih (terminal cost) e = omega (arith, optimal-terminal p wf s cost e, cost-terminal p wf (greedy p) s cost e)
       go s ih (decision acts) e =

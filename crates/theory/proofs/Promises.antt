@@ -36,7 +36,8 @@ module _ {s : List ℕ} {p : Problem} {cells : List Cell} (h : Stands s p cells)
   gaps-total = sum-gap (valueOf cells) (λ t. cut (optimal p t)) (below-optimal p problem-of cells cells-of) (states p)
 
 -- the cells that a sheet stands for are those that its bytes read as
-pub raises-gaps : (s s′ : List ℕ) (p : Problem) (cells cells′ : List Cell) (n : ℕ) → Stands s p cells → Stands s′ p cells′ →
+pub raises-gaps : (s s′ : List ℕ) (p : Problem) (cells cells′ : List Cell) (n : ℕ) → Stands s p cells →
+    Stands s′ p cells′ →
     Kept p cells cells′ n → n + gaps p cells′ ≤ gaps p cells
 raises-gaps s s′ p cells cells′ n h h′ k = omega (arith, gaps-total h, gaps-total h′, k .paid)
 
@@ -51,7 +52,8 @@ module _ (s : List ℕ) (acc : Accepted s) where
   pub bellman-holds : (t : ℕ) → optimal (problemOf s) t ≡ bellman (problemOf s) t (optimal (problemOf s))
   bellman-holds = optimal-solves (problemOf s) wf
 
-  pub bellman-only : (v : ℕ → ℕ) → ((t : ℕ) → v t ≡ bellman (problemOf s) t v) → (t : ℕ) → v t ≡ optimal (problemOf s) t
+  pub bellman-only : (v : ℕ → ℕ) → ((t : ℕ) → v t ≡ bellman (problemOf s) t v) → (t : ℕ) →
+      v t ≡ optimal (problemOf s) t
   bellman-only = optimal-only (problemOf s) wf
 
   pub bellman-cut : (t : ℕ) → cut (optimal (problemOf s) t) ≡ bellmanCut (problemOf s) t (λ u. cut (optimal (problemOf s) u))

@@ -45,7 +45,8 @@ module _ (p : Problem) (budget : ℕ) (v : ℕ → Search → Visit) (s : ℕ) w
     unfolding visitAll onVisit
     successor-fails e = turn ∙ (rw e)
 
-    pub successor-dear : v (getD (a .successors) j 0) w ≡ success w′ → valueAt w′ s < priceAt p w′ a → successorsFrom a j w ≡ failure w′
+    pub successor-dear : v (getD (a .successors) j 0) w ≡ success w′ → valueAt w′ s < priceAt p w′ a →
+        successorsFrom a j w ≡ failure w′
     unfolding visitAll onVisit ifDear onTest
     successor-dear e h = turn ∙ (rw (e, lt-ltb (valueAt w′ s) (priceAt p w′ a) h))
 
@@ -122,7 +123,8 @@ module _ (p : Problem) (budget : ℕ) (v : ℕ → Search → Visit) (s : ℕ) w
 
 -- A visit does not depend on its fuel, where that is enough.
 module _ (p : Problem) (budget : ℕ) where
-  visitAll-same : (v v′ : ℕ → Search → Visit) (s : ℕ) (a : Action) (ts : List ℕ) → ((t : ℕ) (w : Search) → t ∈ ts → v t w ≡ v′ t w) →
+  visitAll-same : (v v′ : ℕ → Search → Visit) (s : ℕ) (a : Action) (ts : List ℕ) →
+      ((t : ℕ) (w : Search) → t ∈ ts → v t w ≡ v′ t w) →
       (w : Search) → visitAll p budget v s a ts w ≡ visitAll p budget v′ s a ts w
   unfolding visitAll
   visitAll-same v v′ s a [] h w = refl
@@ -130,7 +132,8 @@ module _ (p : Problem) (budget : ℕ) where
 
   module _ (v v′ : ℕ → Search → Visit) (s : ℕ) (acts : List Action)
       (h : (i t : ℕ) (w : Search) → t ∈ actionAt acts i .successors → v t w ≡ v′ t w) where
-    tryOne-same : (i : ℕ) (next : Search → Visit) (w : Search) → tryOne p budget v s acts i next w ≡ tryOne p budget v′ s acts i next w
+    tryOne-same : (i : ℕ) (next : Search → Visit) (w : Search) →
+        tryOne p budget v s acts i next w ≡ tryOne p budget v′ s acts i next w
     unfolding tryOne
     tryOne-same i next w = rw (visitAll-same v v′ s (actionAt acts i) (actionAt acts i .successors) (h i) w)
 
@@ -140,7 +143,8 @@ module _ (p : Problem) (budget : ℕ) where
     tryAll-same (suc n) i w = rw (fun-ext (tryAll-same n (suc i)), fun-ext (tryOne-same i (tryAll p budget v′ s acts n (suc i))))
 
   module _ (wf : WellFormed p) where
-    visitOpen-same : (v v′ : ℕ → Search → Visit) (s : ℕ) → ((t : ℕ) (w : Search) → s < t → t < states p → v t w ≡ v′ t w) →
+    visitOpen-same : (v v′ : ℕ → Search → Visit) (s : ℕ) →
+        ((t : ℕ) (w : Search) → s < t → t < states p → v t w ≡ v′ t w) →
         (n : Node) → nodeAt p s ≡ n → (w : Search) → visitOpen p budget v s n w ≡ visitOpen p budget v′ s n w
     unfolding visitOpen
     visitOpen-same v v′ s h (terminal cost) e w = refl
@@ -192,7 +196,8 @@ module _ (p : Problem) (budget n : ℕ) (w w′ : Search) (le : n ≤ budget) wh
   unfolding passes onPass
   pass-succeeds e = rw (more, e)
 
-  pub pass-halts : visit p budget (states p) (p .start) w ≡ halt w′ → passesFrom p budget n w ≡ record { begun = suc n; ended = halt w′ }
+  pub pass-halts : visit p budget (states p) (p .start) w ≡ halt w′ →
+      passesFrom p budget n w ≡ record { begun = suc n; ended = halt w′ }
   unfolding passes onPass
   pass-halts e = rw (more, e)
 

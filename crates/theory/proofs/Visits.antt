@@ -20,7 +20,8 @@ use Rattle.theory.proofs.Leads.{Ready, Leads, stay, then, wider, Fits, 
 use Rattle.theory.proofs.Leads.{value-of, solved-of}
 
 -- What holds of a case function, from what holds in each case.
-on-test : (P : Visit → Type 0) (b : Bool) (f g : Search → Visit) (w : Search) → (b ≡ true → P (f w)) → (b ≡ false → P (g w)) →
+on-test : (P : Visit → Type 0) (b : Bool) (f g : Search → Visit) (w : Search) → (b ≡ true → P (f w)) →
+    (b ≡ false → P (g w)) →
     P (onTest b f g w)
 unfolding onTest
 on-test P true f g w h k = h refl
@@ -49,7 +50,8 @@ Visited p budget s r w (halt w′) = Leads p budget s w w′ × (w′ .raises �
 abbrev AllVisited : Problem → ℕ → ℕ → Action → List ℕ → Search → Visit → Type 0
 AllVisited p budget s a ts w (success w′) =
     Leads p budget (suc s) w w′ × ((t : ℕ) → t ∈ ts → solvedAt w′ t ≡ true) × (priceAt p w′ a ≤ valueAt w′ s)
-AllVisited p budget s a ts w (failure w′) = Leads p budget (suc s) w w′ × (w′ .raises ≡ w .raises → valueAt w′ s < priceAt p w′ a)
+AllVisited p budget s a ts w (failure w′) =
+    Leads p budget (suc s) w w′ × (w′ .raises ≡ w .raises → valueAt w′ s < priceAt p w′ a)
 AllVisited p budget s a ts w (halt w′) = Leads p budget (suc s) w w′ × (w′ .raises ≡ budget)
 
 after-first : {p : Problem} {budget s : ℕ} (t : ℕ) (a : Action) (ts : List ℕ) {w w′ : Search} → Leads p budget (suc s) w w′ →
@@ -65,7 +67,8 @@ after-first t a ts lead solved (success w″) y = (then lead (y .0), split, y .2
 after-first t a ts lead solved (failure w″) y = (then lead (y .0), λ e. y .1 (omega (arith, e, lead .counts, y .0 .counts)))
 after-first t a ts lead solved (halt w″) y = (then lead (y .0), y .1)
 
-later : {p : Problem} {budget s : ℕ} {w w′ : Search} (r : ℕ) → Leads p budget s w w′ → (x : Visit) → Visited p budget s r w′ x →
+later : {p : Problem} {budget s : ℕ} {w w′ : Search} (r : ℕ) → Leads p budget s w w′ → (x : Visit) →
+    Visited p budget s r w′ x →
     Visited p budget s r w x
 later r lead (success w″) y = (then lead (y .0), y .1)
 later r lead (failure w″) y = (then lead (y .0), y .1)
@@ -119,7 +122,8 @@ module _ (p : Problem) (wf : WellFormed p) (budget : ℕ) where
     abbrev Missed : ℕ → ℕ → Search → Type 0
     Missed i r w = w .raises ≡ r → (j : ℕ) → j < i → valueAt w s < priceAt p w (actionAt acts j)
 
-    one-more : (i r : ℕ) (w : Search) → Missed i r w → (w .raises ≡ r → valueAt w s < priceAt p w (actionAt acts i)) → Missed (suc i) r w
+    one-more : (i r : ℕ) (w : Search) → Missed i r w → (w .raises ≡ r → valueAt w s < priceAt p w (actionAt acts i)) →
+        Missed (suc i) r w
     one-more i r w missed h e j l = go (same-or-not j i)
       where
         go : (j ≡ i) ⊎ (j ≢ i) → valueAt w s < priceAt p w (actionAt acts j)
@@ -135,7 +139,8 @@ module _ (p : Problem) (wf : WellFormed p) (budget : ℕ) where
     )
 
     -- no action is left: either something was raised on the way, or the least price is a raise
-    dearer : (r : ℕ) (w : Search) → r ≤ w .raises → Missed (length acts) r w → least (priceAt p w) acts ≤ valueAt w s → r < w .raises
+    dearer : (r : ℕ) (w : Search) → r ≤ w .raises → Missed (length acts) r w → least (priceAt p w) acts ≤ valueAt w s →
+        r < w .raises
     dearer r w ge missed le = go (lt-or-le r (w .raises))
       where
         go : (r < w .raises) ⊎ (w .raises ≤ r) → r < w .raises
@@ -157,7 +162,8 @@ module _ (p : Problem) (wf : WellFormed p) (budget : ℕ) where
           (least-below (priceAt p w) acts i) acts′ e;
     }
 
-    done : (w : Search) (i : ℕ) → Ready p budget w → i < length acts → ((t : ℕ) → t ∈ actionAt acts i .successors → solvedAt w t ≡ true) →
+    done : (w : Search) (i : ℕ) → Ready p budget w → i < length acts →
+        ((t : ℕ) → t ∈ actionAt acts i .successors → solvedAt w t ≡ true) →
         priceAt p w (actionAt acts i) ≤ valueAt w s → Done p w s i
     done w i ready l solved le = record {
       at-cost = λ cost e. no-node e node;
@@ -184,7 +190,8 @@ module _ (p : Problem) (wf : WellFormed p) (budget : ℕ) where
       missed = still i r w w′ (h .begun) lead (h .missed);
     }
 
-    next-action : (i r : ℕ) (w : Search) → Trying i r w → (w .raises ≡ r → valueAt w s < priceAt p w (actionAt acts i)) → Trying (suc i) r w
+    next-action : (i r : ℕ) (w : Search) → Trying i r w → (w .raises ≡ r → valueAt w s < priceAt p w (actionAt acts i)) →
+        Trying (suc i) r w
     next-action i r w h dear = record { ready = h .ready; isOpen = h .isOpen; begun = h .begun; missed = one-more i r w (h .missed) dear }
 
     tryOne-does : (i r : ℕ) → i < length acts → (next : Search → Visit) (w : Search) → Trying i r w →
@@ -228,7 +235,8 @@ module _ (p : Problem) (wf : WellFormed p) (budget : ℕ) where
         (λ le. tryOne-does i r (omega arith) (tryAll p budget v s acts n (suc i)) w h le (tryAll-does n (suc i) (omega arith) r))
 
   -- a terminal that has its cost for a value is marked
-  finish : (s cost : ℕ) (w w′ : Search) → nodeAt p s ≡ terminal cost → s < states p → Leads p budget s w w′ → solvedAt w′ s ≡ false →
+  finish : (s cost : ℕ) (w w′ : Search) → nodeAt p s ≡ terminal cost → s < states p → Leads p budget s w w′ →
+      solvedAt w′ s ≡ false →
       valueAt w′ s ≡ cost → Visited p budget s (w .raises) w (success (marked s 0 w′))
   finish s cost w w′ e state lead isOpen value =
       let m = mark-leads p budget s 0 w′ (lead .ready) state isOpen is-done in (then lead (m .0), m .1)
@@ -274,7 +282,8 @@ module _ (p : Problem) (wf : WellFormed p) (budget : ℕ) where
   visit-does (suc k) s w fuel state ready =
       on-test (Visited p budget s (w .raises) w) (solvedAt w s) _ _ w
       (λ e. (stay ready, e))
-      (λ e. visitOpen-does (visit p budget k) s (λ t w′ lt tn r. visit-does k t w′ (omega arith) tn r) state (nodeAt p s) refl w ready e)
+      (λ e. visitOpen-does (visit p budget k) s
+      (λ t w′ lt tn r. visit-does k t w′ (omega arith) tn r) state (nodeAt p s) refl w ready e)
 
   -- an action of s that is tried and abandoned leaves s and the states before it alone
   pub abandoned-leads : (s i : ℕ) (acts : List Action) → nodeAt p s ≡ decision acts → (w w′ : Search) → Ready p budget w →

@@ -32,7 +32,8 @@ record Passed (p : Problem) (budget n : ℕ) (w : Search) (r : Passes) : Type 0 
   end : Ended p budget w (r .ended)
   few : r .begun + w .raises ≤ suc n + raisesOf r
 
-after-failure : {p : Problem} {budget : ℕ} {w w′ : Search} → Leads p budget (p .start) w w′ → (x : Visit) → Ended p budget w′ x →
+after-failure : {p : Problem} {budget : ℕ} {w w′ : Search} → Leads p budget (p .start) w w′ → (x : Visit) →
+    Ended p budget w′ x →
     Ended p budget w x
 after-failure lead (success w″) y = (then lead (y .0), y .1)
 after-failure lead (failure w″) y = y
@@ -51,7 +52,8 @@ pub record Worked (p : Problem) (cells : List Cell) (budget : ℕ) (r : Passes) 
   pub few : r .begun ≤ suc (raisesOf r)
 
 module _ (p : Problem) (wf : WellFormed p) where
-  passes-does : (budget f n : ℕ) (w : Search) → budget < w .raises + f → Ready p budget w → Passed p budget n w (passes p budget f n w)
+  passes-does : (budget f n : ℕ) (w : Search) → budget < w .raises + f → Ready p budget w →
+      Passed p budget n w (passes p budget f n w)
   unfolding passes
   passes-does budget zero n w fuel ready = absurd (omega (arith, ready .within))
   passes-does budget (suc f) n w fuel ready =
@@ -91,6 +93,7 @@ module _ (p : Problem) (wf : WellFormed p) where
       go n (halt w′) x few = gains n (halt w′) (x .0) (λ _. x .1) few
 
 -- in the midst of a call too, raises are at most the number of states times the ceiling
-pub leads-bounded : (p : Problem) (budget s : ℕ) (w w′ : Search) → w .raises ≡ 0 → Leads p budget s w w′ → w′ .raises ≤ states p * ceiling
+pub leads-bounded : (p : Problem) (budget s : ℕ) (w w′ : Search) → w .raises ≡ 0 → Leads p budget s w w′ →
+    w′ .raises ≤ states p * ceiling
 leads-bounded p budget s w w′ e lead =
     omega (arith, lead .paid, sum-bounded (valueOf (w′ .cells)) ceiling (λ u. lead .ready .consistent .sound u .small) (states p))

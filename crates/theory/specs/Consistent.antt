@@ -17,7 +17,8 @@ pub record WellFormed (p : Problem) : Type 0 where
   -- 5: no terminal costs more than the ceiling
   pub capped : (s cost : ℕ) → nodeAt p s ≡ terminal cost → cost ≤ ceiling
   -- 6: successors are states above their decision
-  pub forward : (s i t : ℕ) (acts : List Action) → nodeAt p s ≡ decision acts → t ∈ actionAt acts i .successors → (s < t) × (t < states p)
+  pub forward : (s i t : ℕ) (acts : List Action) → nodeAt p s ≡ decision acts → t ∈ actionAt acts i .successors →
+      (s < t) × (t < states p)
 
 -- a decision's chosen action exists, has the decision's value for a price, and leads to solved states only
 pub record Settles (p : Problem) (cells : List Cell) (s : ℕ) (acts : List Action) : Type 0 where

@@ -65,7 +65,8 @@ returns : tie.Need-returns
 returns c =
     let no = c .before .before in
     let a = no .before .before .before .before in
-    refused-by _ _ (start-of a .args .budget) _ (sym (no .v .given .1) ∙ a .ask .ensures .0) _ (c .refusal .ensures) _ (a .ask .ensures .1)
+    let said = sym (no .v .given .1) ∙ a .ask .ensures .0 in
+    refused-by _ _ (start-of a .args .budget) _ said _ (c .refusal .ensures) _ (a .ask .ensures .1)
 
 same-length-3 : tie.Need-same-length-3
 same-length-3 c = search needs

@@ -9,7 +9,7 @@ use Rattle.model.specs.Read.{problemOf}
 use Rattle.model.specs.Limits.{maxStates}
 use Rattle.layout.proofs.Index.{states-read}
 use Rattle.ldfs.proofs.Solving.{start-is, head-room}
-use Rattle.listing.proofs.Reaching.{stage, flags-count, started}
+use Rattle.listing.proofs.Reaching.{state-within, flags-count, started}
 use Rattle.listing.proofs.plan.put_reached.Statement.{statement}
 use Rattle.listing.proofs.plan.put_reached.Tie as tie
 
@@ -37,14 +37,14 @@ flags c = flags-count (c .args .flags .now) maxStates (c .pre .1 .0)
 
 get16-requires : tie.Need-get16-requires
 get16-requires c κs =
-    let w = c .before .before .before .before .pre .0 in omega (arith, head-room (stage w (w .formed .starts)))
+    let w = c .before .before .before .before .pre .0 in omega (arith, head-room (state-within w (w .formed .starts)))
 
 word-to-index-requires : tie.Need-word-to-index-requires
 word-to-index-requires c κs = search needs
 
 get16-requires-2 : tie.Need-get16-requires-2
 get16-requires-2 c κs =
-    let w = start-of c .pre .0 in omega (arith, head-room (stage w (w .formed .starts)))
+    let w = start-of c .pre .0 in omega (arith, head-room (state-within w (w .formed .starts)))
 
 word-to-index-requires-2 : tie.Need-word-to-index-requires-2
 word-to-index-requires-2 c κs = search needs

@@ -8,7 +8,7 @@ use native.Mathlib.Omega.{arith}
 use lib.ListN.{length}
 use Rattle.model.specs.Read.{problemOf, cellsOf}
 use Rattle.listing.proofs.Writing.{wrote-length}
-use Rattle.listing.proofs.Reaching.{stage, Lined, lined-none, lined-all, lined-room, lined-state, lined-skip}
+use Rattle.listing.proofs.Reaching.{state-within, Lined, lined-none, lined-all, lined-room, lined-state, lined-skip}
 use Rattle.listing.proofs.plan.put_states.Statement.{statement}
 use Rattle.listing.proofs.plan.put_states.Tie as tie
 
@@ -42,7 +42,7 @@ put-state-requires c κs =
     let L = loop-of (c .before) in
     let pre = start-of L .pre in
     let below = c .before .before .before .loop-test .taken in
-    (stage (pre .0) (omega (arith, pre .1 .0 .0)), lined-room _ _ _ _ _ _ (L .loop .inv) below (pre .1 .1 .1))
+    (state-within (pre .0) (omega (arith, pre .1 .0 .0)), lined-room _ _ _ _ _ _ (L .loop .inv) below (pre .1 .1 .1))
 
 reach-on-requires : tie.Need-reach-on-requires Inv-loop μ-loop
 reach-on-requires c κs =
@@ -64,7 +64,8 @@ loop-again c =
     let below = c .before .before .loop-test .taken in
     let few = start-of L .pre .1 .0 .1 in
     ⊎-elim
-    (λ w. rw (w .9, w .10, w .11) (lined-state _ _ _ _ _ _ h below few (w .0 .taken) (w .2 .ensures .0) (w .2 .ensures .1) (w .6 .ensures)))
+    (λ w. rw (w .9, w .10, w .11)
+    (lined-state _ _ _ _ _ _ h below few (w .0 .taken) (w .2 .ensures .0) (w .2 .ensures .1) (w .6 .ensures)))
     (λ w. rw (w .1, w .2, w .3) (lined-skip _ _ _ _ _ _ h below few (w .0 .left)))
     (c .if1 .came)
 

@@ -7,7 +7,8 @@ use Rattle.model.specs.Read.{cellsOf}
 use Rattle.sheet.specs.Sheet.{Decision}
 use Rattle.questions.proofs.Stepping.{terminal-from, decision-from}
 use Rattle.listing.specs.Put.{flagged}
-use Rattle.listing.proofs.Reaching.{flagged-none, stage, chosen-exists, chosen-fits, chosen-below, chosen-successors, no-successors}
+use Rattle.listing.proofs.Reaching.{flagged-none, state-within, chosen-exists, chosen-fits, chosen-below, chosen-successors}
+use Rattle.listing.proofs.Reaching.{no-successors}
 use Rattle.listing.proofs.plan.reach_on.Statement.{statement}
 use Rattle.listing.proofs.plan.reach_on.Tie as tie
 
@@ -25,7 +26,8 @@ number-of c = c .before
 -- the state is a decision
 decided : (c : tie.Else1) → let a = start-of (c .before) .args in Decision (a .sheet .now) (a .table .now) (a .state)
 decided c =
-    let pre = start-of (c .before) .pre in decision-from (stage (pre .0) (pre .1 .0)) _ (c .before .is-terminal .ensures) (c .if1 .left)
+    let pre = start-of (c .before) .pre in
+    decision-from (state-within (pre .0) (pre .1 .0)) _ (c .before .is-terminal .ensures) (c .if1 .left)
 
 -- the number of its chosen action
 chosen : (c : tie.After-word-to-index) → let a = start-of (else-of c .before) .args in
@@ -34,12 +36,12 @@ chosen c = c .word-to-index .ensures .0 ∙ c .before .byte-to-word .ensures .0 
 
 is-terminal-requires : tie.Need-is-terminal-requires
 is-terminal-requires c κs =
-    let pre = c .before .before .before .pre in stage (pre .0) (pre .1 .0)
+    let pre = c .before .before .before .pre in state-within (pre .0) (pre .1 .0)
 
 returns : tie.Need-returns
 returns c =
     let pre = start-of (c .before) .pre in
-    let end = terminal-from (stage (pre .0) (pre .1 .0)) _ (c .before .is-terminal .ensures) (c .if1 .taken) in
+    let end = terminal-from (state-within (pre .0) (pre .1 .0)) _ (c .before .is-terminal .ensures) (c .if1 .taken) in
     sym (ap (flagged _) (no-successors end) ∙ flagged-none _)
 
 chosen-at-requires : tie.Need-chosen-at-requires

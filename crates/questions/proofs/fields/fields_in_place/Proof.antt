@@ -11,7 +11,8 @@ use Rattle.model.proofs.TestLaws.{never}
 use Rattle.model.specs.Read.{headerFits, nodesGood}
 use Rattle.model.specs.Limits.{maxActions}
 use Rattle.questions.specs.Put.{fieldLength}
-use Rattle.questions.proofs.Reading.{ReadingStates, ReadingActions, Turn, reading-begins, reading-ends, terminal-read, terminal-out}
+use Rattle.questions.proofs.Reading.{ReadingStates, ReadingActions, Turn, reading-begins, reading-ends, terminal-read}
+use Rattle.questions.proofs.Reading.{terminal-out}
 use Rattle.questions.proofs.Reading.{header-out, reading-actions-begins, decision-read, action-out, action-read}
 use Rattle.questions.proofs.fields.fields_in_place.Statement.{statement}
 use Rattle.questions.proofs.fields.fields_in_place.Tie as tie
@@ -75,7 +76,8 @@ action-here c = sym (c .before .byte-at2 .ensures) ∙ c .if5 .taken
 -- that action is one too many, or does not fit
 action-misfit : (c : tie.Then5 Inv-loop μ-loop Inv-states μ-states) → let L = actions-of c in
     let a = start-of (states-of (header-of L)) .args in
-    (L .loop .n ≡ maxActions) ⊎ (fieldLength (drop (L .loop .at) (a .s .now)) ≡ 0) → nodesGood (a .states) (drop 8 (a .s .now)) ≡ false
+    (L .loop .n ≡ maxActions) ⊎ (fieldLength (drop (L .loop .at) (a .s .now)) ≡ 0) →
+    nodesGood (a .states) (drop 8 (a .s .now)) ≡ false
 action-misfit c why =
     let L = actions-of c in
     action-out (turn (header-of L)) (no-terminal (L .before .before .before)) (header (L .before)) (L .loop .inv) (action-here c) why
