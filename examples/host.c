@@ -105,25 +105,49 @@ static const uint8_t *past(const uint8_t *check)
     return check + LDFS_FIELD_CONTENT + big(check + LDFS_FIELD_LENGTH, 2);
 }
 
-/* The plan of a settled sheet: the stages that it reaches from the start, ascending. Findings lead to stages of higher numbers, so one
-   walk upwards meets each stage after all that lead to it. The index table, as the last call left it, says where each stage's field is. */
+/* A stage's field. The index table, as the last call left it, says where it is. */
+static const uint8_t *field_of(uint32_t stage)
+{
+    return sheet + little(table + LDFS_ENTRY_BYTES * stage, LDFS_ENTRY_BYTES);
+}
+
+/* A stage's value, which stands elsewhere in an ending's field than in a junction's. */
+static uint32_t value_of(uint32_t stage)
+{
+    const uint8_t *field = field_of(stage);
+    return big(field + (field[0] == LDFS_ENDING_TAG ? LDFS_ENDING_VALUE : LDFS_JUNCTION_VALUE), 4);
+}
+
+/* The dearest finding of a check: the lowest-numbered of those whose value is largest. Findings ascend, so it is the first of them. */
+static uint32_t dearest(const uint8_t *check)
+{
+    uint32_t by = big(check + LDFS_CHECK_FINDINGS, 2);
+    for (const uint8_t *finding = check + LDFS_CHECK_FINDINGS; finding < past(check); finding += 2)
+        if (value_of(big(finding, 2)) > value_of(by))
+            by = big(finding, 2);
+    return by;
+}
+
+/* The plan of a settled sheet: the stages that it reaches from the start, ascending, and at each junction the dearest finding. Findings
+   lead to stages of higher numbers, so one walk upwards meets each stage after all that lead to it. */
 static void print_plan(void)
 {
     unsigned char reached[LDFS_STAGES_MOST] = {0};
     uint32_t stages = big(sheet + LDFS_HEAD_STAGES, 2), start = big(sheet + LDFS_HEAD_START, 2);
     reached[start] = 1;
     for (uint32_t stage = start; stage < stages; stage++) {
-        const uint8_t *field = sheet + little(table + LDFS_ENTRY_BYTES * stage, LDFS_ENTRY_BYTES);
+        const uint8_t *field = field_of(stage);
         if (!reached[stage])
             continue;
         if (field[0] == LDFS_ENDING_TAG) {
-            printf("stage %" PRIu32 " end value %" PRIu32 "\n", stage, big(field + LDFS_ENDING_VALUE, 4));
+            printf("stage %" PRIu32 " end value %" PRIu32 "\n", stage, value_of(stage));
             continue;
         }
         const uint8_t *check = field + LDFS_JUNCTION_CHECKS;
         for (int i = 0; i < field[LDFS_JUNCTION_CHOSEN]; i++)
             check = past(check);
-        printf("stage %" PRIu32 " check %d value %" PRIu32 "\n", stage, field[LDFS_JUNCTION_CHOSEN], big(field + LDFS_JUNCTION_VALUE, 4));
+        printf("stage %" PRIu32 " check %d value %" PRIu32 " by %" PRIu32 "\n", stage, field[LDFS_JUNCTION_CHOSEN], value_of(stage),
+               dearest(check));
         for (const uint8_t *finding = check + LDFS_CHECK_FINDINGS; finding < past(check); finding += 2)
             reached[big(finding, 2)] = 1;
     }

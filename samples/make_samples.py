@@ -56,6 +56,17 @@ def sheet_b(kind=WORST, value=0, first_finding=1, mark=OPEN):
     ])
 
 
+def sheet_c(kind):
+    """Sheet C of the worked examples (S11): two of its findings share the largest value, and stand neither first nor last."""
+    return sheet(kind, [
+        junction([(10, [1, 2, 3, 4])]),
+        ending(10),
+        ending(40),
+        ending(40),
+        ending(20),
+    ])
+
+
 class Draws:
     """Park and Miller's numbers: each is 16,807 times the one before, modulo 2,147,483,647."""
 
@@ -95,6 +106,8 @@ SAMPLES = {
     "a.sheet": sheet_a(),
     "b-worst.sheet": sheet_b(WORST),
     "b-whole.sheet": sheet_b(WHOLE),
+    "c-worst.sheet": sheet_c(WORST),
+    "c-whole.sheet": sheet_c(WHOLE),
     "forty.sheet": forty(),
     # one for each refusal that a sheet alone can get
     "refused-2.sheet": sheet(WORST, [ending(0)])[:19],

@@ -40,6 +40,18 @@ static const uint8_t sheet_b[] = {
 };
 enum { B_KIND = 3, B_STAGES_LOW = 5, B_VALUE_LOW = 14, B_FINDING_LOW = 25, B_ENDING_MARK = 39 };
 
+/* Sheet C: one junction, one check (10, findings 1 to 4), endings 10, 40, 40 and 20. */
+static const uint8_t sheet_c[] = {
+    1, 0, 5, 0, 0, 5, 0, 0,                         /* head: kind 0, 5 stages, start 0 */
+    3, 0, 6, 0, 0, 0, 0, 0, 0,                      /* stage 0 */
+    4, 0, 12, 0, 0, 0, 10, 0, 1, 0, 2, 0, 3, 0, 4,  /*   check 0 */
+    2, 0, 9, 0, 0, 0, 10, 0, 0, 0, 0, 0,            /* stage 1 */
+    2, 0, 9, 0, 0, 0, 40, 0, 0, 0, 0, 0,            /* stage 2 */
+    2, 0, 9, 0, 0, 0, 40, 0, 0, 0, 0, 0,            /* stage 3 */
+    2, 0, 9, 0, 0, 0, 20, 0, 0, 0, 0, 0,            /* stage 4 */
+};
+enum { C_KIND = 3, C_FIRST_ENDING = 32, C_ENDINGS = 4, ENDING_BYTES = 12 };
+
 static int failures;
 
 static void expect(bool holds, const char *what)
@@ -121,9 +133,11 @@ static void sheet_a_at_once(void)
     /* The plan takes the chosen check at each junction: check 1 at stage 0, which leads to stage 3, an ending. */
     const uint8_t *first = sheet + little(table, LDFS_ENTRY_BYTES);
     const uint8_t *last = sheet + little(table + 3 * LDFS_ENTRY_BYTES, LDFS_ENTRY_BYTES);
-    printf("  stage 0 check %d value %" PRIu32 "\n", first[8], big(first + 3, 4));
+    const uint8_t *check = first + LDFS_JUNCTION_CHECKS + LDFS_FIELD_CONTENT + big(first + LDFS_JUNCTION_CHECKS + LDFS_FIELD_LENGTH, 2);
+    printf("  stage 0 check %d value %" PRIu32 " by %" PRIu32 "\n", first[8], big(first + 3, 4), big(check + LDFS_CHECK_FINDINGS, 2));
     printf("  stage 3 end value %" PRIu32 "\n", big(last + 7, 4));
     expect(first[0] == 3 && big(first + 3, 4) == 500 && first[7] == 1 && first[8] == 1, "stage 0: value 500, settled, check 1");
+    expect(big(check + LDFS_FIELD_LENGTH, 2) == 6 && big(check + LDFS_CHECK_FINDINGS, 2) == 3, "check 1 has one finding, stage 3");
     expect(last[0] == 2 && big(last + 7, 4) == 0 && last[11] == 1, "stage 3: an ending, value 0, settled");
 }
 
@@ -166,6 +180,20 @@ static void sheet_b_of_both_kinds(void)
     memcpy(sheet, sheet_b, sizeof sheet);
     sheet[B_KIND] = 1;
     solve_expecting("sheet B, whole", sheet, sizeof sheet, UINT64_MAX, LDFS_SETTLED, 180, 4, 5);
+}
+
+static void sheet_c_of_both_kinds(void)
+{
+    uint8_t sheet[sizeof sheet_c];
+    memcpy(sheet, sheet_c, sizeof sheet);
+    solve_expecting("sheet C, worst", sheet, sizeof sheet, UINT64_MAX, LDFS_SETTLED, 50, 4, 7);
+    memcpy(sheet, sheet_c, sizeof sheet);
+    sheet[C_KIND] = 1;
+    solve_expecting("sheet C, whole", sheet, sizeof sheet, UINT64_MAX, LDFS_SETTLED, 120, 6, 9);
+    memcpy(sheet, sheet_c, sizeof sheet);
+    for (int i = 0; i < C_ENDINGS; i++)
+        put_big(sheet + C_FIRST_ENDING + ENDING_BYTES * i + LDFS_ENDING_COST, 0);
+    solve_expecting("sheet C, every ending's cost 0", sheet, sizeof sheet, UINT64_MAX, LDFS_SETTLED, 10, 2, 1);
 }
 
 /* One ending of cost 70: its one raise is just within a budget of 1. */
@@ -297,6 +325,7 @@ int main(void)
     sheet_a_carried_on();
     sheet_a_in_steps();
     sheet_b_of_both_kinds();
+    sheet_c_of_both_kinds();
     one_ending();
     chain("chain, ending 999,999", 999999, LDFS_SETTLED, 999999999);
     chain("chain, ending 1,000,000", 1000000, LDFS_OVER, LDFS_CEILING);

@@ -1,6 +1,7 @@
 pub mod Writing
 pub mod Reaching
 pub mod Choices
+pub mod Runs
 pub mod After
 pub mod Promises
 pub mod Answers

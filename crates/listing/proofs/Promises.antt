@@ -1,6 +1,7 @@
--- The promises of a listing: its price is the least cost, and the stages that it has lines for are those that the plan reaches.
+-- The promises of a listing: its price is the least cost, the stages that it has lines for are those that the plan reaches, the finding
+-- that a line names is the dearest, and on a worst sheet the run along those findings costs the price.
 use Prim.Native.Nat.{ℕ, zero, suc, _<_, _≤_}
-use mathlib.Core.Path.{_≡_, refl, sym, subst}
+use mathlib.Core.Path.{_≡_, refl, sym, subst, _∙_}
 use mathlib.Core.Bool.{Bool, true, false, _||_}
 use mathlib.Core.Logic.{_⊎_, inl, inr, ⊎-elim}
 use mathlib.Core.List.{List, [], _∷_, _++_, append-nil}
@@ -10,22 +11,26 @@ use borrow.Author.Tests.{eqb-true, eq-eqb}
 use lib.Dec.{eqb}
 use Rattle.model.specs.declared.Answer.{Answer}
 use Rattle.model.proofs.TestLaws.{never, also-true, true-also}
-use Rattle.model.specs.Problem.{Node, terminal, decision, Problem, Cell, states, nodeAt, actionAt, cellOf, _∈_, here, there}
+use Rattle.model.specs.Problem.{worst, Action, Node, terminal, decision, Problem, Cell, states, nodeAt, actionAt, cellOf, valueOf}
+use Rattle.model.specs.Problem.{_∈_, here, there}
 use Rattle.model.specs.Format.{Bytes}
 use Rattle.model.specs.Read.{problemOf, cellsOf}
 use Rattle.model.specs.Limits.{ceiling}
 use Rattle.model.specs.Questions.{questions, First}
 use Rattle.model.specs.Policy.{Reach, arrived, onward, written}
 use Rattle.model.specs.Report.{number, largest, answerTo, bytesAfter}
-use Rattle.model.specs.Demands.{startCost}
-use Rattle.theory.specs.Consistent.{WellFormed}
+use Rattle.model.specs.QValue.{Dearest}
+use Rattle.model.specs.Demands.{Accepted, startCell, startCost}
+use Rattle.theory.specs.Consistent.{WellFormed, Consistent}
 use Rattle.theory.proofs.Sheets.{accepted-stands}
 use Rattle.theory.proofs.Called.{answer-first}
-use Rattle.theory.proofs.Promises.{problem-of, still-a-sheet, raises-small}
+use Rattle.theory.proofs.Promises.{problem-of, cells-of, still-a-sheet, raises-small}
 use Rattle.theory.proofs.Outcomes.{numbered}
 use Rattle.theory.proofs.Demands.{demand2, worked-accepted}
 use Rattle.listing.specs.Text.{ascii}
-use Rattle.listing.specs.Listing.{field, chosenSuccessorsOf, chosenSuccessors, listed, reachedBelow, reached, stateLines, listing}
+use Rattle.listing.specs.Listing.{field, chosenSuccessorsOf, chosenSuccessors, dearestChosen, listed, reachedBelow, reached}
+use Rattle.listing.specs.Listing.{stateLines, Run, listing}
+use Rattle.listing.proofs.Runs.{names-dearest, runs-on}
 
 -- a test or another
 or-true : (a b : Bool) → (a || b) ≡ true → (a ≡ true) ⊎ (b ≡ true)
@@ -104,6 +109,14 @@ module _ (p : Problem) (cells : List Cell) where
     unfolding reachedBelow
     reached-is t = (reached-reach t t, λ r. onwards r (more 0 (p .start) (eq-eqb (p .start) (p .start) refl) (p .start) (omega arith)))
 
+    -- what the plan reaches from a stage is a stage, and so has a line where it is reached from the start
+    reach-within : {s t : ℕ} → Reach p (written cells) s t → s < states p → t < states p
+    reach-within arrived lt = lt
+    reach-within (onward e i m r) lt = reach-within r (wf .forward _ _ _ _ e m .1)
+
+    has-line : {t : ℕ} → Reach p (written cells) (p .start) t → (t < states p) × (reached p cells t ≡ true)
+    has-line {t} r = (reach-within r (wf .starts), reached-is t .1 r)
+
 -- What `price` prints, with a table of any number of entries.
 -- refused: the number of the first question that is answered no
 pub refused-prints : (s : List ℕ) (entries k : ℕ) → First (questions s entries largest) k →
@@ -123,17 +136,48 @@ module _ (s : List ℕ) (bytes : Bytes s) (entries : ℕ) where
   abbrev line : List ℕ → ℕ → List ℕ
   line word price = field word price ++ (field (ascii " ") (answer .passes) ++ (field (ascii " ") (answer .raises) ++ ascii "\n"))
 
+  -- what a settled call was on, and what it left
+  was-accepted : number (answer .outcome) ≡ 100 → Accepted s
+  was-accepted e = worked-accepted s bytes entries largest (omega arith)
+
+  formed : number (answer .outcome) ≡ 100 → WellFormed (problemOf s)
+  formed e = problem-of (accepted-stands s bytes (was-accepted e .yes))
+
+  consistent : number (answer .outcome) ≡ 100 → Consistent (problemOf s) (cellsOf after)
+  consistent e =
+      let (left, same) = still-a-sheet s (was-accepted e) entries largest in
+      subst (λ (p : Problem). Consistent p (cellsOf after)) same (cells-of (accepted-stands after (left .bytes) (left .yes)))
+
   -- settled: the least cost of the start, and then a line for each stage that the plan in the sheet reaches
   pub settled-prints : number (answer .outcome) ≡ 100 →
       (listing s entries ≡ line (ascii "settled ") (startCost s) ++ stateLines (problemOf s) (cellsOf after) (states (problemOf s)))
       × ((t : ℕ) → ListedAsReached (problemOf s) (cellsOf after) t)
   unfolding listing
   settled-prints e =
-      let d = demand2 s bytes entries largest .settled e in
-      let acc = worked-accepted s bytes entries largest (omega arith) in (
-        rw (numbered s entries largest .settled e, d .price, still-a-sheet s acc entries largest .1),
-        reached-is (problemOf s) (cellsOf after) (problem-of (accepted-stands s bytes (acc .yes))),
+      let d = demand2 s bytes entries largest .settled e in (
+        rw (numbered s entries largest .settled e, d .price, still-a-sheet s (was-accepted e) entries largest .1),
+        reached-is (problemOf s) (cellsOf after) (formed e),
       )
+
+  -- S10.3: what a junction's line names by `by` is the dearest finding of its chosen check (S2.9), by the values as work left them
+  pub line-names : number (answer .outcome) ≡ 100 → (t : ℕ) (acts : List Action) → nodeAt (problemOf s) t ≡ decision acts →
+      Dearest (valueOf (cellsOf after)) (actionAt acts (cellOf (cellsOf after) t .chosen) .successors)
+      (dearestChosen (problemOf s) (cellsOf after) t)
+  line-names e = names-dearest (problemOf s) (cellsOf after) (formed e) (consistent e)
+
+  -- S10.9: on a worst sheet the run that begins at the start and goes on by `by` comes to an ending, every stage of it has a line, and its
+  -- checks and that ending cost the price together
+  pub run-costs : number (answer .outcome) ≡ 100 → problemOf s .kind ≡ worst →
+      (on : List ℕ) × Run (problemOf s) (cellsOf after) (problemOf s .start) on (startCost s)
+      × ((t : ℕ) → t ∈ on → (t < states (problemOf s)) × (reached (problemOf s) (cellsOf after) t ≡ true))
+  run-costs e kind =
+      let demanded = demand2 s bytes entries largest in
+      let d = demanded .settled e in
+      let value : startCell s after .value ≡ startCost s = sym (demanded .price-is-value (omega arith)) ∙ d .price in
+      let (on, run, reach) = runs-on (problemOf s) (cellsOf after) (formed e) (consistent e) kind (problemOf s .start) (d .marked)
+      (omega (arith, d .below, d .price)) in
+      let costs = subst (Run (problemOf s) (cellsOf after) (problemOf s .start) on) value run in
+      (on, costs, λ t m. has-line (problemOf s) (cellsOf after) (formed e) (reach t m))
 
   -- over: the ceiling, which the least cost of the start is at least
   pub over-prints : number (answer .outcome) ≡ 101 → (listing s entries ≡ line (ascii "over ") ceiling) × (ceiling ≤ startCost s)

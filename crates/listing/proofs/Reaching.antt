@@ -10,13 +10,14 @@ use lib.Dec.{eqb}
 use lib.ListN.{length, getD, take, drop, set, replicate, length-set, length-replicate, getD-replicate}
 use lib.Seq.{take-all, take-suc, getD-set-same, getD-set-other}
 use Rattle.model.specs.Tests.{also}
-use Rattle.model.specs.Problem.{Action, Node, decision, Problem, Cell, states, nodeAt, actionAt, cellOf, solved}
+use Rattle.model.specs.Problem.{Action, Node, decision, Problem, Cell, states, nodeAt, cellOf, solved}
 use Rattle.model.specs.Format.{actionOffset}
-use Rattle.model.specs.Read.{actionFits, actionRead, problemOf, cellsOf}
-use Rattle.sheet.specs.Sheet.{Within, Terminal, Decision}
+use Rattle.model.specs.Read.{actionRead, problemOf, cellsOf}
+use Rattle.sheet.specs.Sheet.{Within, Terminal, Decision, Priced}
 use Rattle.sheet.proofs.Laws.{is-terminal, is-decision, actionsAt}
-use Rattle.search.proofs.Actions.{Turn, turn-is, turn-fits, turn-priced}
-use Rattle.listing.specs.Listing.{stateLine, chosenSuccessorsOf, chosenSuccessors, listed, reachedBelow, stateLines}
+use Rattle.theory.specs.Consistent.{WellFormed, Consistent}
+use Rattle.search.proofs.Actions.{Turn, turn-is, turn-priced}
+use Rattle.listing.specs.Listing.{stateLine, chosenSuccessorsOf, chosenSuccessors, listed, reachedBelow, stateLines, maxStateLine}
 use Rattle.listing.specs.Put.{Wrote, Listable, flagged}
 use Rattle.listing.proofs.Writing.{wrote-none, wrote-length, wrote-behind}
 
@@ -64,34 +65,33 @@ flagged-at f (u ∷ ts) t lt = flagged-at (set f u true) ts t (rw length-set lt)
 pub state-within : {s t : List ℕ} {i : ℕ} → Listable s t → i < states (problemOf s) → Within s t i
 state-within w lt = record { sheet = w .sheet; below = lt }
 
--- The action that is chosen at a decision of one.
-module _ {s t : List ℕ} (w : Listable s t) {i : ℕ} (d : Decision s t i) (k : ℕ) (is : k ≡ cellOf (cellsOf s) i .chosen) where
+-- The action that is chosen at a decision exists: a solved one has it, and at an open one it is the first.
+pub chosen-in : (p : Problem) (cells : List Cell) → WellFormed p → Consistent p cells → (s : ℕ) (acts : List Action) →
+    nodeAt p s ≡ decision acts → cellOf cells s .chosen < length acts
+chosen-in p cells wf con s acts e = go (solved (cellOf cells s)) refl
+  where
+    go : (b : Bool) → solved (cellOf cells s) ≡ b → cellOf cells s .chosen < length acts
+    go true sol = con .sound s .settles acts e sol .exists
+    go false isOpen = rw (con .sound s .unchosen isOpen) (wf .has-action s acts e)
+
+module _ {s t : List ℕ} (w : Listable s t) {i : ℕ} (d : Decision s t i) where
   node : nodeAt (problemOf s) i ≡ decision (actionsAt (problemOf s) i)
   node = is-decision (nodeAt (problemOf s) i) (d .tag)
 
-  pub chosen-exists : k < length (actionsAt (problemOf s) i)
-  chosen-exists = rw is (go (solved (cellOf (cellsOf s) i)) refl)
-    where
-      go : (b : Bool) → solved (cellOf (cellsOf s) i) ≡ b → cellOf (cellsOf s) i .chosen < length (actionsAt (problemOf s) i)
-      go true e = w .consistent .sound i .settles (actionsAt (problemOf s) i) node e .exists
-      go false e = rw (w .consistent .sound i .unchosen e) (w .formed .has-action i (actionsAt (problemOf s) i) node)
+  pub chosen-exists : cellOf (cellsOf s) i .chosen < length (actionsAt (problemOf s) i)
+  chosen-exists = chosen-in (problemOf s) (cellsOf s) (w .formed) (w .consistent) i (actionsAt (problemOf s) i) node
 
-  module _ (o : ℕ) (at : o ≡ actionOffset (problemOf s) i k) where
-    turn : Turn (problemOf s) i k o
+  module _ (o : ℕ) (at : o ≡ actionOffset (problemOf s) i (cellOf (cellsOf s) i .chosen)) where
+    turn : Turn (problemOf s) i (cellOf (cellsOf s) i .chosen) o
     turn = record { formed = w .formed; below = d .within .below; tag = d .tag; exists = chosen-exists; place = at }
 
-    pub chosen-fits : actionFits (drop o s) ≡ true
-    chosen-fits = turn-fits turn (d .within .sheet)
-
-    pub chosen-below : (n : ℕ) → states (problemOf s) ≤ n → (j : ℕ) → j < length (actionRead (drop o s) .successors) →
-        getD (actionRead (drop o s) .successors) j 0 < n
-    chosen-below n le j lt = omega (arith, turn-priced turn (d .within .sheet) .below j lt)
+    pub chosen-priced : Priced s t o
+    chosen-priced = turn-priced turn (d .within .sheet)
 
     pub chosen-successors : actionRead (drop o s) .successors ≡ chosenSuccessors (problemOf s) (cellsOf s) i
     chosen-successors =
         let read = ap (λ (a : Action). a .successors) (turn-is turn (d .within .sheet)) in
-        let chosen = ap (λ (x : ℕ). actionAt (actionsAt (problemOf s) i) x .successors) is in
-        read ∙ chosen ∙ sym (ap (λ (n : Node). chosenSuccessorsOf n (cellOf (cellsOf s) i)) node)
+        read ∙ sym (ap (λ (n : Node). chosenSuccessorsOf n (cellOf (cellsOf s) i)) node)
 
 pub no-successors : {s t : List ℕ} {i : ℕ} → Terminal s t i → chosenSuccessors (problemOf s) (cellsOf s) i ≡ []
 no-successors {s} {t} {i} h = rw (is-terminal (nodeAt (problemOf s) i) (h .tag))
@@ -101,7 +101,7 @@ pub record Lined (p : Problem) (cells : List Cell) (n m : ℕ) (out₀ : List �
     (flags : List Bool) (out : List ℕ) (next s : ℕ) : Type 0 where
   pub upto : s ≤ n
   pub text : Wrote out₀ out at next (stateLines p cells s)
-  pub most : next ≤ at + 81 * s
+  pub most : next ≤ at + maxStateLine * s
   pub wide : length flags ≡ m
   pub up : (t : ℕ) → t < n → getD flags t false ≡ reachedBelow p cells s t
 
@@ -116,12 +116,13 @@ module _ (p : Problem) (cells : List Cell) (n m : ℕ) (out₀ : List ℕ) (at :
     pub lined-all : n ≤ s → Wrote out₀ out at next (stateLines p cells n)
     lined-all le = let e : s ≡ n = omega (arith, h .upto) in rw e at (h .text)
 
-    pub lined-room : s < n → at + 81 * n ≤ length out₀ → next + 81 ≤ length out
+    pub lined-room : s < n → at + maxStateLine * n ≤ length out₀ → next + maxStateLine ≤ length out
     lined-room lt room = omega (arith, h .most, wrote-length (h .text))
 
     module _ (lt : s < n) (le : n ≤ m) where
       pub lined-state : getD flags s false ≡ true →
-          {out′ : List ℕ} {next′ : ℕ} → Wrote out out′ next next′ (stateLine p cells s) → next′ ≤ next + 81 →
+          {out′ : List ℕ} {next′ : ℕ} → Wrote out out′ next next′ (stateLine p cells s) →
+          next′ ≤ next + maxStateLine →
           {flags′ : List Bool} → flags′ ≡ flagged flags (chosenSuccessors p cells s) →
           Lined p cells n m out₀ at flags′ out′ next′ (s + 1)
       unfolding stateLines reachedBelow also

@@ -1,5 +1,6 @@
 -- S10: what `price` prints.
 use Prim.Native.Nat.{ℕ, zero, suc, _+_, _*_}
+use mathlib.Core.Path.{_≡_}
 use mathlib.Core.Bool.{Bool, false, _||_}
 use mathlib.Core.List.{List, [], _∷_, _++_}
 use lib.Dec.{eqb, leb}
@@ -8,9 +9,10 @@ use Rattle.model.specs.declared.Outcome.{Outcome}
 use Rattle.model.specs.declared.Outcome.the-variants.{Refused, Settled, Over, Stopped}
 use Rattle.model.specs.declared.Answer.{Answer}
 use Rattle.model.specs.Tests.{fork, also}
-use Rattle.model.specs.Problem.{Node, terminal, decision, Problem, Cell, states, nodeAt, actionAt, cellOf}
+use Rattle.model.specs.Problem.{Action, Node, terminal, decision, Problem, Cell, states, nodeAt, actionAt, cellOf, valueOf}
 use Rattle.model.specs.Read.{problemOf, cellsOf}
 use Rattle.model.specs.Limits.{maxStates}
+use Rattle.model.specs.QValue.{dearest}
 use Rattle.model.specs.Report.{largest, answerTo, bytesAfter, tableAfter}
 use Rattle.listing.specs.declared.Listed.{Listed}
 use Rattle.listing.specs.declared.Listed.the-variants.{TooShort, Written}
@@ -33,16 +35,6 @@ lineOf Stopped a = figures (ascii "stopped ") a
 abbrev pub lineOne : Answer → List ℕ
 lineOne a = lineOf (a .outcome) a
 
--- S10.3, a stage's line: number, chosen check or `end`, value.
-abbrev pub choiceOf : Node → Cell → List ℕ
-choiceOf (terminal cost) c = ascii " end"
-choiceOf (decision acts) c = field (ascii " check ") (c .chosen)
-
-abbrev pub stateLine : Problem → List Cell → ℕ → List ℕ
-stateLine p cells s =
-    field (ascii "stage ") s
-    ++ (choiceOf (nodeAt p s) (cellOf cells s) ++ (field (ascii " value ") (cellOf cells s .value) ++ ascii "\n"))
-
 -- the findings of the check that is chosen at a stage; an ending has none
 abbrev pub chosenSuccessorsOf : Node → Cell → List ℕ
 chosenSuccessorsOf (terminal cost) c = []
@@ -50,6 +42,25 @@ chosenSuccessorsOf (decision acts) c = actionAt acts (c .chosen) .successors
 
 abbrev pub chosenSuccessors : Problem → List Cell → ℕ → List ℕ
 chosenSuccessors p cells s = chosenSuccessorsOf (nodeAt p s) (cellOf cells s)
+
+-- the dearest of them (S2.9) by the values in the cells
+abbrev pub dearestChosen : Problem → List Cell → ℕ → ℕ
+dearestChosen p cells s = dearest (valueOf cells) (chosenSuccessors p cells s)
+
+-- S10.3, a stage's line: number, chosen check or `end`, value; then, at a junction, `by` and the dearest finding
+abbrev pub choiceOf : Node → Cell → List ℕ
+choiceOf (terminal cost) c = ascii " end"
+choiceOf (decision acts) c = field (ascii " check ") (c .chosen)
+
+abbrev pub lineEnd : Node → ℕ → List ℕ
+lineEnd (terminal cost) t = ascii "\n"
+lineEnd (decision acts) t = field (ascii " by ") t ++ ascii "\n"
+
+abbrev pub stateLine : Problem → List Cell → ℕ → List ℕ
+stateLine p cells s =
+    field (ascii "stage ") s
+    ++ (choiceOf (nodeAt p s) (cellOf cells s)
+    ++ (field (ascii " value ") (cellOf cells s .value) ++ lineEnd (nodeAt p s) (dearestChosen p cells s)))
 
 -- is t one of the listed?
 unfoldable pub listed : ℕ → List ℕ → Bool
@@ -77,17 +88,25 @@ planOf Settled s = stateLines (problemOf s) (cellsOf s) (states (problemOf s))
 planOf Over s = []
 planOf Stopped s = []
 
+-- S10.9: the run from the stage s that goes from each junction to the stage that its line names by `by`, until an ending: the stages on it,
+-- and what the checks on it and that ending cost together
+pub data Run (p : Problem) (cells : List Cell) : ℕ → List ℕ → ℕ → Type 0 where
+  ends : {s cost : ℕ} → nodeAt p s ≡ terminal cost → Run p cells s (s ∷ []) cost
+  goes : {s c : ℕ} {acts : List Action} {on : List ℕ} → nodeAt p s ≡ decision acts →
+      Run p cells (dearestChosen p cells s) on c →
+      Run p cells s (s ∷ on) (actionAt acts (cellOf cells s .chosen) .cost + c)
+
 -- S10.1: the listing of a sheet that is worked with the largest budget and a table of so many entries
 unfoldable pub listing : List ℕ → ℕ → List ℕ
 listing s entries = lineOne (answerTo s entries largest) ++ planOf (answerTo s entries largest .outcome) (bytesAfter s entries largest)
 
--- The most bytes of line one, and of a stage's line, with twenty digits for every number: `settled ` and three numbers; `stage `, ` check `
--- and ` value ` with a number behind each.
+-- The most bytes of line one, and of a stage's line, with twenty digits for every number: `settled ` and three numbers; `stage `,
+-- ` check `, ` value ` and ` by ` with a number behind each.
 abbrev pub maxLineOne : ℕ
 maxLineOne = 71
 
 abbrev pub maxStateLine : ℕ
-maxStateLine = 81
+maxStateLine = 105
 
 -- No listing has more bytes than this. A shorter buffer is too short, whatever the sheet: it gets that answer, and sheet, table and buffer
 -- are left as they are.

@@ -14,7 +14,7 @@ use plan::put_plan;
 // The most bytes of line one, and of a state's line: `maxLineOne` and `maxStateLine` of specs/Listing.antt.
 const MAX_LINE_ONE: usize = 71;
 
-const MAX_STATE_LINE: usize = 81;
+const MAX_STATE_LINE: usize = 105;
 
 // The bytes that a buffer must have. No listing has more.
 pub const ENOUGH: usize = MAX_LINE_ONE + MAX_STATE_LINE * MAX_STATES;

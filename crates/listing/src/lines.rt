@@ -1,22 +1,25 @@
 // The lines of a listing.
 ghost use mathlib.Core.List.{_++_};
-ghost use Prim.Native.Nat.{_+_, _≤_};
+ghost use Prim.Native.Nat.{_+_, _<_, _≤_};
 ghost use lib.ListN.{length};
-ghost use Rattle.model.specs.Problem.{nodeAt, cellOf};
+ghost use Rattle.model.specs.Problem.{nodeAt, cellOf, states};
 ghost use Rattle.model.specs.Read.{problemOf, cellsOf};
 ghost use Rattle.sheet.specs.Sheet.{Within};
 ghost use Rattle.listing.specs.Text.{ascii};
-ghost use Rattle.listing.specs.Listing.{field, figures, lineOne, choiceOf, stateLine, maxLineOne, maxStateLine};
-ghost use Rattle.listing.specs.Put.{Wrote};
+ghost use Rattle.listing.specs.Listing.{field, figures, lineOne, choiceOf, dearestChosen, lineEnd, stateLine};
+ghost use Rattle.listing.specs.Listing.{maxLineOne, maxStateLine};
+ghost use Rattle.listing.specs.Put.{Wrote, Listable};
 use super::text::put_field;
 use super::text::put_word;
 use model::Answer;
 use model::Outcome;
+use questions::states::chosen_action;
 use sheet::convert::byte_to_word;
 use sheet::convert::word_to_long;
 use sheet::fields::chosen_at;
 use sheet::fields::is_terminal;
 use sheet::fields::value_at;
+use sheet::pricing::price;
 
 // `refused` and the number.
 fn put_refused(out: &mut [u8], at: usize, n: u32) -> usize
@@ -75,6 +78,25 @@ fn put_choice(sheet: &[u8], table: &[u32], out: &mut [u8], at: usize, state: usi
     }
 }
 
+// The end of a state's line: behind a decision's value the dearest successor of its chosen action.
+fn put_line_end(sheet: &[u8], table: &[u32], out: &mut [u8], at: usize, state: usize) -> usize
+    requires { ⌜ Listable (now sheet) (now table) ⌝ }
+    requires { ⌜ state < states (problemOf (now sheet)) ⌝ }
+    requires { ⌜ at + 25 ≤ length (now out) ⌝ }
+    ensures { λ r. ⌜ Wrote (now (out .entry)) (now (out .exit)) at r
+        (lineEnd (nodeAt (problemOf (now (sheet .entry))) state)
+        (dearestChosen (problemOf (now (sheet .entry))) (cellsOf (now (sheet .entry))) state)) ⌝ }
+    ensures { λ r. ⌜ r ≤ at + 25 ⌝ }
+{
+    if is_terminal(sheet, table, state) {
+        return put_word(out, at, b"\n");
+    }
+    let action = chosen_action(sheet, table, state);
+    let x = price(sheet, table, action);
+    let next = put_field(out, at, b" by ", x.dearest as u64);
+    put_word(out, next, b"\n")
+}
+
 // A state's line (S10.3).
 pub(crate) fn put_state(
     sheet: &[u8],
@@ -83,7 +105,8 @@ pub(crate) fn put_state(
     at: usize,
     state: usize,
 ) -> usize
-    requires { ⌜ Within (now sheet) (now table) state ⌝ }
+    requires { ⌜ Listable (now sheet) (now table) ⌝ }
+    requires { ⌜ state < states (problemOf (now sheet)) ⌝ }
     requires { ⌜ at + maxStateLine ≤ length (now out) ⌝ }
     ensures { λ r. ⌜ Wrote (now (out .entry)) (now (out .exit)) at r
         (stateLine (problemOf (now (sheet .entry))) (cellsOf (now (sheet .entry))) state) ⌝ }
@@ -97,5 +120,5 @@ pub(crate) fn put_state(
         b" value ",
         word_to_long(value_at(sheet, table, state)),
     );
-    put_word(out, next, b"\n")
+    put_line_end(sheet, table, out, next, state)
 }

@@ -13,10 +13,8 @@ use super::lines::put_state;
 use model::MAX_STATES;
 use model::Outcome;
 use model::format;
-use questions::states::action_at;
-use sheet::convert::byte_to_word;
+use questions::states::chosen_action;
 use sheet::convert::word_to_index;
-use sheet::fields::chosen_at;
 use sheet::fields::is_terminal;
 use sheet::fields::successor;
 use sheet::fields::successor_count;
@@ -48,8 +46,7 @@ fn reach_on(sheet: &[u8], table: &[u32], flags: &mut [bool], state: usize)
     if is_terminal(sheet, table, state) {
         return;
     }
-    let chosen = word_to_index(byte_to_word(chosen_at(sheet, table, state)));
-    let at = action_at(sheet, table, state, chosen);
+    let at = chosen_action(sheet, table, state);
     flag_all(sheet, at, flags);
 }
 

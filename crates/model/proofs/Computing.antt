@@ -6,7 +6,7 @@ use Rattle.model.specs.Format.{be16, be32, successorsBytes, actionsBytes
 use Rattle.model.specs.Format.{nodeSize, offsetsFrom}
 use Rattle.model.specs.Read.{actionFits, successorsRead, actionRead, actionsGood, actionsRead, actionsLong, terminalFits}
 use Rattle.model.specs.Read.{headerFits, decisionFits, nodesGood, nodesRead, cellsRead, kindOf, problemOf, cellsOf}
-use Rattle.model.specs.QValue.{join, joined, leastFrom, least}
+use Rattle.model.specs.QValue.{join, joined, dearestFrom, dearest, leastFrom, least}
 use Rattle.model.specs.Questions.{question1, question2, question3, question4, costsInRange, chosenInRange, cellInRange, question5}
 use Rattle.model.specs.Questions.{ascending, successorsInOrder, question6}
 use Rattle.model.specs.Questions.{valueUnder, question7, allSolved, passedBy, markEarned, question8, question9, firstNo}
@@ -32,7 +32,7 @@ computingRead = tt
 
 -- limits, tests and prices
 unfoldable computingPrices : Unit {0}
-unfolding also all every ceiling join joined leastFrom least
+unfolding also all every ceiling join joined dearestFrom dearest leastFrom least
 computingPrices = tt
 
 -- questions 1 to 6

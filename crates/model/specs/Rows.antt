@@ -52,6 +52,18 @@ sheetB kind value finding mark =
     ∷ 2 ∷ 0 ∷ 9 ∷ 0 ∷ 0 ∷ 0 ∷ 50 ∷ 0 ∷ 0 ∷ 0 ∷ 0 ∷ 0
     ∷ []
 
+-- Sheet C of a kind, with the costs of its endings.
+abbrev pub sheetC : ℕ → ℕ → ℕ → ℕ → ℕ → List ℕ
+sheetC kind one two three four =
+    1 ∷ 0 ∷ 5 ∷ kind ∷ 0 ∷ 5 ∷ 0 ∷ 0
+    ∷ 3 ∷ 0 ∷ 6 ∷ 0 ∷ 0 ∷ 0 ∷ 0 ∷ 0 ∷ 0
+    ∷ 4 ∷ 0 ∷ 12 ∷ 0 ∷ 0 ∷ 0 ∷ 10 ∷ 0 ∷ 1 ∷ 0 ∷ 2 ∷ 0 ∷ 3 ∷ 0 ∷ 4
+    ∷ 2 ∷ 0 ∷ 9 ∷ 0 ∷ 0 ∷ 0 ∷ one ∷ 0 ∷ 0 ∷ 0 ∷ 0 ∷ 0
+    ∷ 2 ∷ 0 ∷ 9 ∷ 0 ∷ 0 ∷ 0 ∷ two ∷ 0 ∷ 0 ∷ 0 ∷ 0 ∷ 0
+    ∷ 2 ∷ 0 ∷ 9 ∷ 0 ∷ 0 ∷ 0 ∷ three ∷ 0 ∷ 0 ∷ 0 ∷ 0 ∷ 0
+    ∷ 2 ∷ 0 ∷ 9 ∷ 0 ∷ 0 ∷ 0 ∷ four ∷ 0 ∷ 0 ∷ 0 ∷ 0 ∷ 0
+    ∷ []
+
 -- one ending of value 0
 abbrev ending : ℕ → List ℕ
 ending cost = 2 ∷ 0 ∷ 9 ∷ 0 ∷ 0 ∷ 0 ∷ cost ∷ 0 ∷ 0 ∷ 0 ∷ 0 ∷ 0 ∷ []
@@ -152,6 +164,10 @@ rows =
     ∷ row (manyChecks 17) largest (refusedBy 4)
     ∷ row (manyFindings 16) largest accepts
     ∷ row (manyFindings 17) largest (refusedBy 4)
+    -- S11.17 to S11.19
+    ∷ row (sheetC 0 10 40 40 20) largest (settled 50 4 7)
+    ∷ row (sheetC 1 10 40 40 20) largest (settled 120 6 9)
+    ∷ row (sheetC 0 0 0 0 0) largest (settled 10 2 1)
     -- beside those of S11
     ∷ record { sheet = sheetA; entries = maxStates - 1; budget = largest; expected = refusedBy 1 }
     ∷ row (take 19 (oneEnding 0)) largest (refusedBy 2)

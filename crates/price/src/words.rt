@@ -11,9 +11,10 @@ Prices the fault sheet in FILE, or the one on standard input: the least cost for
 can be cleared however the findings fall, and the plan that costs it.
 
 Line one is the outcome (settled or over), the price in cents, passes and raises. Where it is
-settled, a line follows for each stage that the plan reaches: its number, its check or `end`, and
-its value. A sheet that is refused gets `refused` and the number of the question that it fails,
-which is explained on standard error.
+settled, a line follows for each stage that the plan reaches: its number, its check or `end`, its
+value, and for a check `by` and the stage that the dearest of its findings leads to. A sheet that
+is refused gets `refused` and the number of the question that it fails, which is explained on
+standard error.
 
 docs/SPEC.md, S10, has it all.
 ",

@@ -87,13 +87,12 @@ pub earned-terminal : {s t : List ℕ} {i : ℕ} → Terminal s t i →
 unfolding markEarned costOf
 earned-terminal {s} {t} {i} d = rw (is-terminal (nodeAt (problemOf s) i) (d .tag))
 
-module _ {s t : List ℕ} {i : ℕ} (d : Decision s t i) (ex : ChosenExists (problemOf s) (cellsOf s) i)
-    (k : ℕ) (is : k ≡ cellOf (cellsOf s) i .chosen) where
-  pub chosen-below : k < length (actionsAt (problemOf s) i)
-  chosen-below = rw is (ex (some d))
+module _ {s t : List ℕ} {i : ℕ} (d : Decision s t i) (ex : ChosenExists (problemOf s) (cellsOf s) i) where
+  pub chosen-below : cellOf (cellsOf s) i .chosen < length (actionsAt (problemOf s) i)
+  chosen-below = ex (some d)
 
-  module _ (o : ℕ) (at : o ≡ actionOffset (problemOf s) i k) where
-    along : Along s i k o
+  module _ (o : ℕ) (at : o ≡ actionOffset (problemOf s) i (cellOf (cellsOf s) i .chosen)) where
+    along : Along s i (cellOf (cellsOf s) i .chosen) o
     along = record { upto = omega (arith, chosen-below); at = at }
 
     pub chosen-priced : question6 (problemOf s) ≡ true → Priced s t o
@@ -104,7 +103,7 @@ module _ {s t : List ℕ} {i : ℕ} (d : Decision s t i) (ex : ChosenExists (pro
       passed : markEarned (problemOf s) (cellsOf s) i (nodeAt (problemOf s) i) ≡
           all (eqb value price ∷ allSolved (cellsOf s) (actionRead (drop o s) .successors) ∷ [])
       unfolding passedBy
-      passed = earned-is (problemOf s) i (d .tag) (cellsOf s) ∙ rw (v, x, along-is d along chosen-below, is)
+      passed = earned-is (problemOf s) i (d .tag) (cellsOf s) ∙ rw (v, x, along-is d along chosen-below)
 
       pub earned-decision : value ≡ price → (b : Bool) → b ≡ allSolved (cellsOf s) (actionRead (drop o s) .successors) →
           b ≡ markEarned (problemOf s) (cellsOf s) i (nodeAt (problemOf s) i)

@@ -176,7 +176,7 @@ fn all_solved(sheet: &[u8], table: &[u32], at: usize) -> bool
 }
 
 // Where action i of a decision stands.
-pub fn action_at(sheet: &[u8], table: &[u32], state: usize, i: usize) -> usize
+fn action_at(sheet: &[u8], table: &[u32], state: usize, i: usize) -> usize
     requires { ⌜ Decision (now sheet) (now table) state ⌝ }
     requires { ⌜ i < length (actionsOf (nodeAt (problemOf (now sheet)) state)) ⌝ }
     ensures { λ r. ⌜ r ≡ actionOffset (problemOf (now (sheet .entry))) state i ⌝ }
@@ -188,6 +188,17 @@ pub fn action_at(sheet: &[u8], table: &[u32], state: usize, i: usize) -> usize
         k += 1;
     }
     at
+}
+
+// Where the action that is chosen at a decision stands.
+pub fn chosen_action(sheet: &[u8], table: &[u32], state: usize) -> usize
+    requires { ⌜ Decision (now sheet) (now table) state ⌝ }
+    requires { ⌜ cellOf (cellsOf (now sheet)) state .chosen < length (actionsOf (nodeAt (problemOf (now sheet)) state)) ⌝ }
+    ensures { λ r. ⌜ r ≡ actionOffset (problemOf (now (sheet .entry))) state
+        (cellOf (cellsOf (now (sheet .entry))) state .chosen) ⌝ }
+{
+    let chosen = word_to_index(byte_to_word(chosen_at(sheet, table, state)));
+    action_at(sheet, table, state, chosen)
 }
 
 // Question 8 of one solved state.
@@ -202,8 +213,7 @@ fn mark_earned(sheet: &[u8], table: &[u32], state: usize) -> bool
     if is_terminal(sheet, table, state) {
         return value == terminal_cost(sheet, table, state);
     }
-    let chosen = word_to_index(byte_to_word(chosen_at(sheet, table, state)));
-    let at = action_at(sheet, table, state, chosen);
+    let at = chosen_action(sheet, table, state);
     let x = price(sheet, table, at);
     if value == x.price {
         all_solved(sheet, table, at)

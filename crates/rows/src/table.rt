@@ -9,9 +9,11 @@ use super::lines::LARGEST;
 use super::lines::work_line;
 use super::sheets::A;
 use super::sheets::B;
+use super::sheets::C;
 use super::sheets::CHECK;
 use super::sheets::FINDINGS_16;
 use super::sheets::FINDINGS_17;
+use super::sheets::FREE_C;
 use super::sheets::ONE;
 
 // Sheet A stopped, and that sheet carried on.
@@ -55,9 +57,17 @@ fn last_rows() {
     both(b"findings-17", 18, &FINDINGS_17, 1, 17);
 }
 
+// Sheet C of both kinds, and with every ending's cost 0.
+fn dearest_rows() {
+    work(b"C-worst", &C, 0, 0, 0, LARGEST);
+    work(b"C-whole", &C, 3, 1, 1, LARGEST);
+    work(b"C-endings-0", &FREE_C, 0, 0, 0, LARGEST);
+}
+
 // Every row.
 pub fn rows() {
     first_rows();
     refusals();
     last_rows();
+    dearest_rows();
 }

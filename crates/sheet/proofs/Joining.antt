@@ -1,14 +1,18 @@
--- Pricing as loops do it: with what has been joined so far, or the least so far, in hand.
+-- Pricing as loops do it: with what has been joined so far, the dearest so far, or the least so far, in hand.
 use Prim.Native.Nat.{ℕ, zero, suc, _+_, _*_, _<_, _≤_, min, max}
-use mathlib.Core.Path.{_≡_, refl, _∙_, sym}
+use mathlib.Core.Path.{_≡_, refl, _∙_, sym, ap}
+use mathlib.Core.Bool.{Bool, true, false}
 use mathlib.Core.List.{List, [], _∷_}
 use native.Mathlib.Omega.{arith}
 use native.Mathlib.Numerals.{add-one}
+use borrow.Author.Tests.{ltb-true, ltb-false}
+use lib.Dec.{ltb}
 use lib.ListN.{length, getD, drop}
 use lib.Seq.{drop-cons, drop-length}
+use Rattle.model.specs.Tests.{fork}
 use Rattle.model.specs.Problem.{Kind, worst, whole, Action, action, actionAt}
 use Rattle.model.specs.Read.{kindOf, problemOf}
-use Rattle.model.specs.QValue.{join, joined, leastFrom, least}
+use Rattle.model.specs.QValue.{join, joined, dearerOf, dearestFrom, dearest, leastFrom, least}
 use Rattle.sheet.specs.Sheet.{ofKind}
 
 join-assoc : (k : Kind) (a b c : ℕ) → join k a (join k b c) ≡ join k (join k a b) c
@@ -72,26 +76,84 @@ module _ (k : Kind) (v : ℕ → ℕ) (ts : List ℕ) where
   unfolding joined
   joined-end x = rw (drop-length ts) (join-zero k x .0)
 
--- `total` and `most` are the sum and the largest of the values before number j
-pub record Sums (v : ℕ → ℕ) (ts : List ℕ) (total most j : ℕ) : Type 0 where
+-- of `best`, whose value counts as `most`, and the states behind it, the first whose value is largest: as the loop finds it
+unfoldable pub dearestWith : (ℕ → ℕ) → ℕ → ℕ → List ℕ → ℕ
+dearestWith v best most [] = best
+dearestWith v best most (u ∷ us) = dearestWith v (dearerOf most (v u) best u) (max most (v u)) us
+
+module _ (v : ℕ → ℕ) where
+  -- it is the definition's where the value is its own
+  with-from : (t : ℕ) (us : List ℕ) → dearestWith v t (v t) us ≡ dearestFrom v t us
+  unfolding dearestWith dearestFrom
+  with-from t [] = refl
+  with-from t (u ∷ us) =
+      let next : ℕ = dearerOf (v t) (v u) t u in
+      ap (λ (m : ℕ). dearestWith v next m us) (larger (ltb (v t) (v u)) refl) ∙ with-from next us
+    where
+      larger : (b : Bool) → ltb (v t) (v u) ≡ b → max (v t) (v u) ≡ v (fork b (λ _. u) (λ _. t))
+      larger true e = omega (arith, ltb-true (v t) (v u) e)
+      larger false e = omega (arith, ltb-false (v t) (v u) e)
+
+  -- and where the first is counted as 0 until its turn
+  with-first : (t : ℕ) (ts : List ℕ) → dearest v (t ∷ ts) ≡ dearestWith v t 0 (t ∷ ts)
+  unfolding dearestWith dearest
+  with-first t ts = sym (same (ltb 0 (v t)) ∙ with-from t ts)
+    where
+      own : max 0 (v t) ≡ v t
+      own = omega arith
+
+      same : (b : Bool) → dearestWith v (fork b (λ _. t) (λ _. t)) (max 0 (v t)) ts ≡ dearestWith v t (v t) ts
+      same true = rw own
+      same false = rw own
+
+module _ (v : ℕ → ℕ) (ts : List ℕ) where
+  dearest-begin : 0 < length ts → dearest v ts ≡ dearestWith v (getD ts 0 0) 0 ts
+  dearest-begin some = go ts some
+    where
+      go : (us : List ℕ) → 0 < length us → dearest v us ≡ dearestWith v (getD us 0 0) 0 us
+      go [] some = absurd (omega arith)
+      go (t ∷ us) some = with-first v t us
+
+  dearest-turn : (best most j : ℕ) → j < length ts →
+      dearestWith v best most (drop j ts) ≡
+      dearestWith v (dearerOf most (v (getD ts j 0)) best (getD ts j 0)) (max most (v (getD ts j 0))) (drop (suc j) ts)
+  unfolding dearestWith
+  dearest-turn best most j lt = rw (drop-cons ts j 0 lt)
+
+  dearest-end : (best most : ℕ) → dearestWith v best most (drop (length ts) ts) ≡ best
+  unfolding dearestWith
+  dearest-end best most = rw (drop-length ts)
+
+-- `total` and `most` are the sum and the largest of the values before number j, and `best` is the first of the largest value; before any
+-- of them, the first successor
+pub record Sums (v : ℕ → ℕ) (ts : List ℕ) (total most best j : ℕ) : Type 0 where
   pub summed : total ≤ 4294967296 * j
   pub largest : most < 4294967296
   pub total-is : joined whole v ts ≡ joinedFrom whole v ts j total
   pub most-is : joined worst v ts ≡ joinedFrom worst v ts j most
+  pub best-is : dearest v ts ≡ dearestWith v best most (drop j ts)
 
 module _ {v : ℕ → ℕ} {ts : List ℕ} where
-  pub sums-none : Sums v ts 0 0 0
-  sums-none = record { summed = omega arith; largest = omega arith; total-is = joined-begin whole v ts; most-is = joined-begin worst v ts }
+  -- none of them yet: the first stands for the dearest
+  pub sums-none : {first : ℕ} → 0 < length ts → first ≡ getD ts 0 0 → Sums v ts 0 0 first 0
+  sums-none some e = record {
+    summed = omega arith;
+    largest = omega arith;
+    total-is = joined-begin whole v ts;
+    most-is = joined-begin worst v ts;
+    best-is = rw e (dearest-begin v ts some);
+  }
 
-  module _ {total most j : ℕ} (h : Sums v ts total most j) where
+  module _ {total most best j : ℕ} (h : Sums v ts total most best j) where
     -- successor number j is t, whose value is x
-    pub sums-more : {t x top : ℕ} → j < length ts → t ≡ getD ts j 0 → x ≡ v t → x < 4294967296 → top ≡ max most x →
-        Sums v ts (total + x) top (j + 1)
-    sums-more lt at e small larger = record {
+    pub sums-more : {t x top next : ℕ} → j < length ts → t ≡ getD ts j 0 → x ≡ v t → x < 4294967296 → top ≡ max most x →
+        next ≡ dearerOf most x best t → Sums v ts (total + x) top next (j + 1)
+    sums-more lt at e small larger next-is = record {
       summed = omega (arith, h .summed);
       largest = omega (arith, h .largest, larger);
       total-is = rw (add-one, join-total, e, at) (h .total-is ∙ joined-turn whole v ts j total lt);
       most-is = rw (add-one, larger, join-most, e, at) (h .most-is ∙ joined-turn worst v ts j most lt);
+      best-is = rw (add-one, next-is, larger, e, at) (h .best-is ∙ dearest-turn v ts best most j lt);
     }
 
     pub sums-all : (k : Kind) → j ≡ length ts → joined k v ts ≡ ofKind k most total
@@ -99,6 +161,9 @@ module _ {v : ℕ → ℕ} {ts : List ℕ} where
         let all : joined whole v ts ≡ total = rw e at (h .total-is) ∙ joined-end whole v ts total in
         let top : joined worst v ts ≡ most = rw e at (h .most-is) ∙ joined-end worst v ts most in
         joined-of k v ts ∙ rw (all, top)
+
+    pub sums-dearest : j ≡ length ts → best ≡ dearest v ts
+    sums-dearest e = sym (rw e at (h .best-is) ∙ dearest-end v ts best most)
 
 module _ (f : Action → ℕ) (acts : List Action) where
   -- x is the least before number i

@@ -1,11 +1,11 @@
-// The price of an action (S2.8), for both kinds. Sums are kept in 64 bits before they are cut.
+// The price of an action (S2.8) and its dearest successor (S2.9), for both kinds. Sums are kept in 64 bits before they are cut.
 ghost use mathlib.Core.Path.{_≡_};
 ghost use Prim.Native.Nat.{_+_, _<_, _≤_, max};
 ghost use lib.ListN.{length, drop};
 ghost use Rattle.model.specs.Problem.{valueOf};
 ghost use Rattle.model.specs.Format.{kindIn};
 ghost use Rattle.model.specs.Read.{problemOf, cellsOf, actionRead};
-ghost use Rattle.model.specs.QValue.{cut, q};
+ghost use Rattle.model.specs.QValue.{cut, q, dearerOf, dearest};
 ghost use Rattle.sheet.specs.Sheet.{Priced, ofKind};
 use super::convert::word_to_long;
 use super::fields::action_cost;
@@ -16,9 +16,10 @@ use model::CEILING;
 use model::LONG_CEILING;
 use model::format;
 
-// What pricing an action gives.
+// What pricing an action gives: its price, and the lowest-numbered of its successors whose value is largest.
 pub struct Pricing {
     pub price: u32,
+    pub dearest: usize,
 }
 
 // The larger of two values.
@@ -26,6 +27,13 @@ fn larger(x: u64, y: u64) -> u64
     ensures { λ r. ⌜ r ≡ max x y ⌝ }
 {
     if x < y { y } else { x }
+}
+
+// Of the dearest successor so far, `best` of value `most`, and the next one, t of value x, the dearer; the one so far where they are equal.
+fn dearer(most: u64, x: u64, best: usize, t: usize) -> usize
+    ensures { λ r. ⌜ r ≡ dearerOf most x best t ⌝ }
+{
+    if most < x { t } else { best }
 }
 
 // Of the largest value and the sum, the one that the sheet's kind counts: the largest on a worst sheet (kind 0), the sum on a whole one.
@@ -47,23 +55,26 @@ fn cut_off(x: u64) -> u32
     if x < LONG_CEILING { x as u32 } else { CEILING }
 }
 
-// The price of the action at `at`, by the sheet's kind and the current values. An action has a successor, so the loop is tested at its end,
-// and both the largest value and the sum are kept: one loop without a test of the kind.
+// The price of the action at `at`, by the sheet's kind and the current values, and its dearest successor. An action has a successor, so the
+// loop is tested at its end, and both the largest value and the sum are kept: one loop without a test of the kind.
 pub fn price(sheet: &[u8], table: &[u32], at: usize) -> Pricing
     requires { ⌜ Priced (now sheet) (now table) at ⌝ }
     ensures { λ r. ⌜ (r .price ≡ q (problemOf (now (sheet .entry)) .kind) (valueOf (cellsOf (now (sheet .entry))))
         (actionRead (drop at (now (sheet .entry))))) ×
-        (r .price ≤ 1000000000) ⌝ }
+        (r .price ≤ 1000000000) ×
+        (r .dearest ≡ dearest (valueOf (cellsOf (now (sheet .entry)))) (actionRead (drop at (now (sheet .entry))) .successors)) ⌝ }
 {
     let end = next_action(sheet, at);
     let mut total: u64 = 0;
     let mut most: u64 = 0;
+    let mut dearest = successor(sheet, at, 0);
     let mut j: usize = 0;
     loop {
         let t = successor(sheet, at, j);
         j += 1;
         let x = word_to_long(value_at(sheet, table, t));
         total += x;
+        dearest = dearer(most, x, dearest, t);
         most = larger(most, x);
         if end <= at + format::SUCCESSORS_IN + format::SUCCESSOR_BYTES * j {
             break;
@@ -72,5 +83,6 @@ pub fn price(sheet: &[u8], table: &[u32], at: usize) -> Pricing
     let cost = word_to_long(action_cost(sheet, at));
     Pricing {
         price: cut_off(cost + of_kind(sheet, most, total)),
+        dearest,
     }
 }

@@ -13,11 +13,11 @@ use Rattle.model.specs.Tests.{fork}
 use Rattle.model.specs.Problem.{Action, action, Node, terminal, decision, Problem, Cell, cell, states, nodeAt, actionAt}
 use Rattle.model.specs.Problem.{cellOf, solved, _∈_, here, there}
 use Rattle.model.specs.Limits.{ceiling, maxCost}
-use Rattle.model.specs.Questions.{costsInRange, chosenInRange, cellInRange, question5, successorsInOrder, question6}
+use Rattle.model.specs.Questions.{costsInRange, chosenInRange, cellInRange, question5, ascending, successorsInOrder, question6}
 use Rattle.model.specs.Questions.{valueUnder, question7, allSolved, passedBy, markEarned, question8}
-use Rattle.layout.proofs.Shapes.{node-shaped, ascending-in}
+use Rattle.layout.proofs.Shapes.{node-shaped, action-shaped, ascending-in}
 use Rattle.layout.specs.Shape.{NodeShaped, ChosenShaped}
-use Rattle.theory.specs.Consistent.{WellFormed, Sound, Consistent}
+use Rattle.theory.specs.Consistent.{Ascends, WellFormed, Sound, Consistent}
 use Rattle.theory.specs.Asked.{Asked}
 use Rattle.theory.proofs.Basics.{clash, lt-or-le}
 
@@ -37,6 +37,12 @@ solved-all : (cells : List Cell) (ts : List ℕ) → ((t : ℕ) → t ∈ ts →
 unfolding allSolved
 solved-all cells [] h = refl
 solved-all cells (t ∷ ts) h = true-also _ _ (h t here) (solved-all cells ts (λ u m. h u (there m)))
+
+ascends : (low n : ℕ) (ts : List ℕ) → ascending low n ts ≡ true → Ascends ts
+unfolding ascending
+ascends low n [] h = tt
+ascends low n (t ∷ ts) h =
+    let more = also-true _ _ h .1 in (λ u m. omega (arith, ascending-in t n ts more u m), ascends t n ts more)
 
 chosen-zero : (n : Node) (c : Cell) → ChosenShaped n c → (cost : ℕ) → n ≡ terminal cost → c .chosen ≡ 0
 chosen-zero n c h cost e = subst (λ (m : Node). ChosenShaped m c) e h
@@ -61,19 +67,27 @@ module _ (p : Problem) (cells : List Cell) (h : Asked p cells) where
   unfolding costsInRange successorsInOrder ceiling
   asked-problem = record {
     starts = h .shaped .start;
-    has-action = λ s acts e. subst NodeShaped e (node-shaped (p .nodes) (h .shaped .nodes) s) .0 .0;
+    has-action = λ s acts e. shape s acts e .0 .0;
     capped = λ s cost e. cap s cost e (lt-or-le s (states p));
     forward = λ s i t acts e m. ahead s i t acts e m (lt-or-le i (length acts));
+    ordered = λ s i acts e l.
+        (action-shaped acts i l (shape s acts e .1) .0, ascends s (states p) (actionAt acts i .successors) (in-order s i acts e l));
   }
     where
+      shape : (s : ℕ) (acts : List Action) → nodeAt p s ≡ decision acts → NodeShaped (decision acts)
+      shape s acts e = subst NodeShaped e (node-shaped (p .nodes) (h .shaped .nodes) s)
+
+      in-order : (s i : ℕ) (acts : List Action) → nodeAt p s ≡ decision acts → i < length acts →
+          ascending s (states p) (actionAt acts i .successors) ≡ true
+      in-order s i acts e l = every-true (length acts) _ (rw e at (six s (is-state s acts e))) i l
+
       cap : (s cost : ℕ) → nodeAt p s ≡ terminal cost → (s < states p) ⊎ (states p ≤ s) → cost ≤ ceiling
       cap s cost e (inl l) = omega (arith, leb-true cost maxCost (rw e at (five s l .0)))
       cap s cost e (inr le) = let z : cost ≡ 0 = cc (List·getD-eq-default (p .nodes) (terminal 0) {n = s} le) in omega arith
 
       ahead : (s i t : ℕ) (acts : List Action) → nodeAt p s ≡ decision acts → t ∈ actionAt acts i .successors →
           (i < length acts) ⊎ (length acts ≤ i) → (s < t) × (t < states p)
-      ahead s i t acts e m (inl l) =
-          ascending-in s (states p) (actionAt acts i .successors) (every-true (length acts) _ (rw e at (six s (is-state s acts e))) i l) t m
+      ahead s i t acts e m (inl l) = ascending-in s (states p) (actionAt acts i .successors) (in-order s i acts e l) t m
       ahead s i t acts e m (inr le) =
           absurd (none (subst (λ (a : Action). t ∈ a .successors) (List·getD-eq-default acts (action 0 []) {n = i} le) m))
         where

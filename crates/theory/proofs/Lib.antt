@@ -1,5 +1,6 @@
 pub mod Basics
 pub mod QValueLaws
+pub mod DearestLaws
 pub mod Bellman
 pub mod PolicyLaws
 pub mod Admissible

@@ -4,11 +4,12 @@ use mathlib.Core.Path.{_≡_, refl}
 use mathlib.Core.Bool.{true}
 use mathlib.Core.List.{List}
 use native.Mathlib.Omega.{arith}
-use Rattle.model.specs.Problem.{Problem, Cell, states, cellOf, valueOf, solved}
+use lib.ListN.{length}
+use Rattle.model.specs.Problem.{Action, decision, Problem, Cell, states, nodeAt, actionAt, cellOf, valueOf, solved}
 use Rattle.model.specs.Format.{Bytes}
 use Rattle.model.specs.Read.{problemOf, cellsOf}
 use Rattle.model.specs.Limits.{ceiling}
-use Rattle.model.specs.QValue.{cut}
+use Rattle.model.specs.QValue.{cut, dearest, Dearest}
 use Rattle.model.specs.Questions.{refusal}
 use Rattle.model.specs.Optimal.{bellman, bellmanCut, optimal, sumBelow, gap, gaps}
 use Rattle.model.specs.Policy.{Policy, Closed, policyCost, written}
@@ -16,6 +17,7 @@ use Rattle.model.specs.Report.{answerTo, bytesAfter}
 use Rattle.model.specs.Demands.{Accepted}
 use Rattle.theory.specs.Consistent.{WellFormed, Consistent}
 use Rattle.theory.proofs.Basics.{sum-gap, sum-bounded}
+use Rattle.theory.proofs.DearestLaws.{action-dearest, dearest-only}
 use Rattle.theory.proofs.Bellman.{optimal-solves, optimal-only, optimal-cut}
 use Rattle.theory.proofs.PolicyLaws.{optimal-least, greedy, greedy-closed, greedy-attains}
 use Rattle.theory.proofs.Admissible.{monotone, below-optimal, solved-cost}
@@ -77,12 +79,20 @@ module _ (s : List ℕ) (acc : Accepted s) where
       valueOf (cellsOf s) t ≡ cut (policyCost (problemOf s) (written (cellsOf s)) t)
   solved-written = solved-cost (problemOf s) wf (cellsOf s) (cells-of stands)
 
+  -- 4: the dearest successor of an action, by any values, is the lowest-numbered of those whose value is largest, and no other number is
+  pub dearest-of : (t i : ℕ) (acts : List Action) → nodeAt (problemOf s) t ≡ decision acts → i < length acts →
+      (v : ℕ → ℕ) →
+      Dearest v (actionAt acts i .successors) (dearest v (actionAt acts i .successors))
+      × ((u : ℕ) → Dearest v (actionAt acts i .successors) u → u ≡ dearest v (actionAt acts i .successors))
+  dearest-of t i acts e l v =
+      let is = action-dearest (problemOf s) wf t i acts e l v in (is, dearest-only v is)
+
   -- One call, with any number of table entries and any budget.
   module _ (entries budget : ℕ) where
     called : Called s (problemOf s) (cellsOf s) entries budget
     called = call-does s (problemOf s) (cellsOf s) stands entries budget
 
-    -- 4: raises are at most the gaps
+    -- 5: raises are at most the gaps
     pub raises-few : answerTo s entries budget .raises ≤ gaps (problemOf s) (cellsOf s)
     raises-few = omega (arith, raises-gaps s _ (problemOf s) (cellsOf s) (called .next) _ stands (called .stands) (called .kept))
 
@@ -92,7 +102,7 @@ module _ (s : List ℕ) (acc : Accepted s) where
         let bound = sum-bounded (gap (problemOf s) (cellsOf s)) ceiling (λ t. omega arith) (states (problemOf s)) in
         omega (arith, stands .asked .shaped .most, bound)
 
-    -- 5: the bytes after it pass questions 2 to 8 again, with the same problem
+    -- 6: the bytes after it pass questions 2 to 8 again, with the same problem
     pub still-a-sheet : Accepted (bytesAfter s entries budget) × (problemOf (bytesAfter s entries budget) ≡ problemOf s)
     still-a-sheet = (
       record { bytes = called .stands .bytes; yes = stands-accepted _ (problemOf s) (called .next) (called .stands) },

@@ -28,7 +28,7 @@ module _ (k : Kind) where
   joined-mono v v′ [] h = omega arith
   joined-mono v v′ (t ∷ ts) h = joins k .mono _ _ _ _ (h t here) (joined-mono v v′ ts (λ u m. h u (there m)))
 
-  joined-part : (v : ℕ → ℕ) {t : ℕ} {ts : List ℕ} → t ∈ ts → v t ≤ joined k v ts
+  pub joined-part : (v : ℕ → ℕ) {t : ℕ} {ts : List ℕ} → t ∈ ts → v t ≤ joined k v ts
   unfolding joined
   joined-part v (here {t} {ts}) = joins k .parts (v t) (joined k v ts) .0
   joined-part v (there {u} {ts} m) = omega (arith, joined-part v m, joins k .parts (v u) (joined k v ts) .1)

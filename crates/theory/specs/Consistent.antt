@@ -2,11 +2,16 @@
 use Prim.Native.Nat.{ℕ, _<_, _≤_}
 use mathlib.Core.Path.{_≡_}
 use mathlib.Core.Bool.{true, false}
-use mathlib.Core.List.{List}
+use mathlib.Core.List.{List, [], _∷_}
 use lib.ListN.{length}
 use Rattle.model.specs.Problem.{Action, terminal, decision, Problem, Cell, states, nodeAt, actionAt, cellOf, valueOf, solved, _∈_}
 use Rattle.model.specs.Limits.{ceiling}
 use Rattle.model.specs.QValue.{q}
+
+-- states ascend, and equal ones may stand side by side
+abbrev pub Ascends : List ℕ → Type 0
+Ascends [] = Unit {0}
+Ascends (t ∷ ts) = ((u : ℕ) → u ∈ ts → t ≤ u) × Ascends ts
 
 -- of the problem alone
 pub record WellFormed (p : Problem) : Type 0 where
@@ -19,6 +24,9 @@ pub record WellFormed (p : Problem) : Type 0 where
   -- 6: successors are states above their decision
   pub forward : (s i t : ℕ) (acts : List Action) → nodeAt p s ≡ decision acts → t ∈ actionAt acts i .successors →
       (s < t) × (t < states p)
+  -- 4 and 6: an action has a successor, and its successors ascend
+  pub ordered : (s i : ℕ) (acts : List Action) → nodeAt p s ≡ decision acts → i < length acts →
+      (0 < length (actionAt acts i .successors)) × Ascends (actionAt acts i .successors)
 
 -- a decision's chosen action exists, has the decision's value for a price, and leads to solved states only
 pub record Settles (p : Problem) (cells : List Cell) (s : ℕ) (acts : List Action) : Type 0 where

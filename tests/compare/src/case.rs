@@ -11,16 +11,16 @@ pub struct Case {
     pub damaged: bool,
     pub bytes: Vec<u8>,
     pub calls: Vec<Call>,
-    /// With the largest budget, work ends soon.
-    pub ends: bool,
+    /// The sheet as work with the largest budget leaves it, where that ends soon.
+    pub worked: Option<Vec<u8>>,
 }
 
 pub fn make(seed: u64) -> Case {
     let mut rng = Rng::new(seed);
     let (shape, draw) = SHAPES[shapes::draw(&mut rng)];
     let mut draft = draw(&mut rng);
-    let worked = how_worked(&mut rng, shape);
-    cells::fill(&mut draft, &mut rng, worked);
+    let filled = how_worked(&mut rng, shape);
+    cells::fill(&mut draft, &mut rng, filled);
     let (in_draft, in_bytes) =
         rng.pick(&[(false, false), (false, false), (false, false), (true, false), (false, true), (true, true)]);
     if in_draft {
@@ -32,11 +32,11 @@ pub fn make(seed: u64) -> Case {
     }
     let mut calls: Vec<Call> = (0..rng.between(1, 5)).map(|_| calls::draw(&mut rng)).collect();
     let most = most_raises(draft.states.len());
-    let ends = ends_within(&bytes, most);
-    if !ends {
+    let worked = worked_within(&bytes, most);
+    if worked.is_none() {
         calls.iter_mut().for_each(|call| call.budget = call.budget.min(most));
     }
-    Case { shape, damaged: in_draft || in_bytes, bytes, calls, ends }
+    Case { shape, damaged: in_draft || in_bytes, bytes, calls, worked }
 }
 
 /// Large sheets are worked nearly to their end, or visits would never get far into them.
@@ -54,8 +54,9 @@ fn most_raises(states: usize) -> u64 {
     (40_000_000 / states as u64).clamp(40_000, 120_000)
 }
 
-/// Is the sheet refused, or does its work end within a budget?
-fn ends_within(bytes: &[u8], budget: u64) -> bool {
+/// The sheet as work leaves it, if that ends within a budget. A refused sheet stays as it is.
+fn worked_within(bytes: &[u8], budget: u64) -> Option<Vec<u8>> {
     let mut copy = bytes.to_vec();
-    procedure::call(&mut copy, &mut [0; 4096], budget, &mut [0; 24]) != 102
+    let number = procedure::call(&mut copy, &mut [0; 4096], budget, &mut [0; 24]);
+    (number != 102).then_some(copy)
 }

@@ -43,7 +43,20 @@ const WANTED: [&str; 36] = [
 ];
 
 /// Wanted too where a `price` program is given.
-const WANTED_OF_PRICE: [&str; 3] = ["price: settled", "price: over", "price: refused"];
+const WANTED_OF_PRICE: [&str; 8] = [
+    "price: settled",
+    "price: over",
+    "price: refused",
+    "price: by on a whole sheet",
+    "price: by where two findings share the largest value",
+    "price: by that is neither the first nor the last finding",
+    "price: by that is not the dearest finding of check 0",
+    "price: run along by adds up to the price",
+];
+
+/// And of these, one sheet in so many must have had each: the whole text was compared, and had the line of a junction in it.
+const OFTEN: [&str; 2] = ["price: compared", "price: a junction's line"];
+const ONE_IN: u64 = 5;
 
 #[derive(Default)]
 pub struct Coverage(BTreeMap<String, u64>);
@@ -67,10 +80,27 @@ impl Coverage {
         self.0.iter()
     }
 
-    /// What a long run should have had and had not.
-    pub fn missing(&self, with_price: bool) -> Vec<&'static str> {
-        let price = if with_price { &WANTED_OF_PRICE[..] } else { &[] };
-        let wanted = WANTED.iter().chain(price);
-        wanted.copied().filter(|&name| !self.0.contains_key(name)).collect()
+    /// What a long run of so many sheets should have had and had not.
+    pub fn missing(&self, sheets: u64, with_price: bool) -> Vec<String> {
+        let mut missing = self.never(&WANTED);
+        if with_price {
+            missing.extend(self.never(&WANTED_OF_PRICE));
+            missing.extend(self.seldom(&OFTEN, sheets));
+        }
+        missing
+    }
+
+    fn never(&self, names: &[&str]) -> Vec<String> {
+        let none = names.iter().filter(|name| self.count(name) == 0);
+        none.map(|name| format!("no sheet had: {name}")).collect()
+    }
+
+    fn seldom(&self, names: &[&str], sheets: u64) -> Vec<String> {
+        let few = names.iter().filter(|name| self.count(name) * ONE_IN < sheets);
+        few.map(|name| format!("fewer than one sheet in {ONE_IN} had: {name}")).collect()
+    }
+
+    fn count(&self, name: &str) -> u64 {
+        self.0.get(name).copied().unwrap_or(0)
     }
 }

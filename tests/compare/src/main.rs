@@ -2,7 +2,7 @@
 //!
 //!     compare COUNT FIRST_SEED [PRICE_PROGRAM]
 //!
-//! Each seed makes one sheet and a list of calls on it. A failing case prints its seed; `compare 1 SEED` makes it again.
+//! Each seed makes one sheet and a list of calls on it. A failing case prints its seed; COUNT 1 and that seed make it again.
 
 mod calls;
 mod case;
@@ -10,11 +10,13 @@ mod cells;
 mod check;
 mod coverage;
 mod damage;
+mod dearest;
 mod draft;
 mod lent;
 mod price;
 mod rng;
 mod rows;
+mod run;
 mod shapes;
 mod supervisor;
 mod worker;

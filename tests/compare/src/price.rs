@@ -1,26 +1,55 @@
 //! The `price` program, run on a sheet and compared with the lines of `procedure`.
 
+use crate::coverage::Coverage;
+use crate::{dearest, run};
 use std::io::Write;
 use std::process::{Command, Output, Stdio};
+use sweep::Sheet;
 
-/// The first word that was printed, or what differs.
-pub fn compare(program: &str, bytes: &[u8]) -> Result<String, String> {
+/// Puts a sheet to the program. `worked` is the sheet as work leaves it.
+pub fn compare(program: &str, bytes: &[u8], worked: &[u8], seen: &mut Coverage) -> Result<(), String> {
     let expected = procedure::listing(bytes);
-    expect(program, bytes, &expected)?;
-    Ok(expected.split_whitespace().next().unwrap_or("").to_string())
+    let printed = expect(program, bytes, &expected)?;
+    let word = expected.split_whitespace().next().unwrap_or("");
+    seen.saw("price: compared");
+    seen.saw(&format!("price: {word}"));
+    if word == "settled" {
+        let sheet = sweep::read(worked).map_err(|number| format!("a worked sheet is refused {number}"))?;
+        dearest::count(&sheet, seen);
+        follow(&printed, &sheet, seen)?;
+    }
+    Ok(())
 }
 
-/// The program prints exactly this, and explains a refusal and nothing else.
-pub fn expect(program: &str, bytes: &[u8], expected: &str) -> Result<(), String> {
-    let output = run(program, bytes).map_err(|why| format!("price: {why}"))?;
+/// On a worst sheet the run along `by` adds up to the price. One without a junction is not counted.
+fn follow(printed: &str, sheet: &Sheet, seen: &mut Coverage) -> Result<(), String> {
+    if !sheet.whole {
+        let junctions = run::follow(printed, sheet)?;
+        seen.saw_if(junctions > 0, "price: run along by adds up to the price");
+    }
+    Ok(())
+}
+
+/// The program prints exactly this, and explains a refusal and nothing else. What it printed.
+pub fn expect(program: &str, bytes: &[u8], expected: &str) -> Result<String, String> {
+    let output = output_of(program, bytes).map_err(|why| format!("price: {why}"))?;
     let printed = String::from_utf8_lossy(&output.stdout);
     let said = String::from_utf8_lossy(&output.stderr);
     if printed != expected {
-        Err(format!("price printed {printed:?}, expected {expected:?}"))
+        Err(difference(&printed, expected))
     } else if !explains(expected, &said) {
-        Err(format!("price printed {printed:?} and said {said:?}"))
+        Err(format!("price printed {:?} and said {said:?}", expected.lines().next()))
     } else {
-        Ok(())
+        Ok(printed.into_owned())
+    }
+}
+
+/// The first line that is not as expected.
+fn difference(printed: &str, expected: &str) -> String {
+    let mut pairs = printed.split('\n').zip(expected.split('\n')).enumerate();
+    match pairs.find(|(_, (found, wanted))| found != wanted) {
+        Some((place, (found, wanted))) => format!("price printed {found:?} as line {}, expected {wanted:?}", place + 1),
+        None => format!("price printed {} bytes, expected {}", printed.len(), expected.len()),
     }
 }
 
@@ -33,7 +62,7 @@ fn explains(printed: &str, said: &str) -> bool {
     said.starts_with(&format!("price: refused {number} (S4.{number}): ")) && said.ends_with('\n') && said.lines().count() == 1
 }
 
-fn run(program: &str, bytes: &[u8]) -> std::io::Result<Output> {
+fn output_of(program: &str, bytes: &[u8]) -> std::io::Result<Output> {
     let mut child = Command::new(program).stdin(Stdio::piped()).stdout(Stdio::piped()).stderr(Stdio::piped()).spawn()?;
     if let Some(mut input) = child.stdin.take() {
         // A program that has read enough may close its input early.

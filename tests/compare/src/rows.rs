@@ -35,6 +35,12 @@ fn sheet_b(kind: u8) -> Draft {
     Draft::new(kind, 0, vec![junction, Node::Terminal(30), Node::Terminal(50)])
 }
 
+fn sheet_c(kind: u8, costs: [u32; 4]) -> Draft {
+    let mut nodes = vec![Node::Decision(vec![check(10, &[1, 2, 3, 4])])];
+    nodes.extend(costs.map(Node::Terminal));
+    Draft::new(kind, 0, nodes)
+}
+
 fn one_ending(cost: u32) -> Draft {
     Draft::new(0, 0, vec![Node::Terminal(cost)])
 }
@@ -79,10 +85,37 @@ fn bad_cost_and_cut() -> Vec<u8> {
     bytes
 }
 
-/// What `price` prints for sheet A, whole.
-const LINES_OF_A: &str = "settled 500 3 3\nstage 0 check 1 value 500\nstage 3 end value 0\n";
+/// The costs of the endings of sheet C.
+const COSTS_OF_C: [u32; 4] = [10, 40, 40, 20];
 
-/// Puts every row to all three, and sheet A to the `price` program if there is one. The error says what the row gave.
+/// What `price` prints, whole.
+const LINES_OF_A: &str = "settled 500 3 3
+stage 0 check 1 value 500 by 3
+stage 3 end value 0
+";
+const LINES_OF_C_WORST: &str = "settled 50 4 7
+stage 0 check 0 value 50 by 2
+stage 1 end value 10
+stage 2 end value 40
+stage 3 end value 40
+stage 4 end value 20
+";
+const LINES_OF_C_WHOLE: &str = "settled 120 6 9
+stage 0 check 0 value 120 by 2
+stage 1 end value 10
+stage 2 end value 40
+stage 3 end value 40
+stage 4 end value 20
+";
+const LINES_OF_C_WITHOUT_COSTS: &str = "settled 10 2 1
+stage 0 check 0 value 10 by 1
+stage 1 end value 0
+stage 2 end value 0
+stage 3 end value 0
+stage 4 end value 0
+";
+
+/// Puts every row to all three, and sheets A and C to the `price` program if there is one. The error says what the row gave.
 pub fn run(price: Option<&str>) -> Result<Coverage, String> {
     let mut seen = Coverage::default();
     let a_stopped = call("A, budget 2", &sheet_a().bytes(), 2, Answer(102, 200, 2, 2))?;
@@ -106,16 +139,32 @@ pub fn run(price: Option<&str>) -> Result<Coverage, String> {
         ("17 checks", with_checks(17).bytes(), LARGEST, refused(4)),
         ("16 findings", with_findings(16).bytes(), LARGEST, Accepted),
         ("17 findings", with_findings(17).bytes(), LARGEST, refused(4)),
+        ("C worst", sheet_c(0, COSTS_OF_C).bytes(), LARGEST, Answer(100, 50, 4, 7)),
+        ("C whole", sheet_c(1, COSTS_OF_C).bytes(), LARGEST, Answer(100, 120, 6, 9)),
+        ("C with every ending's cost 0", sheet_c(0, [0; 4]).bytes(), LARGEST, Answer(100, 10, 2, 1)),
     ];
     seen.add("worked examples", 1 + rows.len() as u64);
     for (name, bytes, budget, expected) in rows {
         call(name, &bytes, budget, expected)?;
     }
     if let Some(program) = price {
-        println!("at sheet A, printed");
-        price::expect(program, &sheet_a().bytes(), LINES_OF_A)?;
+        printed(program)?;
     }
     Ok(seen)
+}
+
+fn printed(program: &str) -> Result<(), String> {
+    let texts = [
+        ("A", sheet_a(), LINES_OF_A),
+        ("C worst", sheet_c(0, COSTS_OF_C), LINES_OF_C_WORST),
+        ("C whole", sheet_c(1, COSTS_OF_C), LINES_OF_C_WHOLE),
+        ("C with every ending's cost 0", sheet_c(0, [0; 4]), LINES_OF_C_WITHOUT_COSTS),
+    ];
+    for (name, draft, lines) in texts {
+        println!("at row '{name}', printed");
+        price::expect(program, &draft.bytes(), lines)?;
+    }
+    Ok(())
 }
 
 /// The bytes that the call leaves.

@@ -24,6 +24,8 @@ struct Spec {
 enum Costs {
     /// Up to 3, so that many prices are equal.
     Ties,
+    /// One of three, and mostly the largest of them, so that many values are equal.
+    Few,
     /// Up to 40.
     Small,
     /// Up to 2,000, in steps of 50.
@@ -36,7 +38,7 @@ enum Costs {
 
 type Draw = fn(&mut Rng) -> Draft;
 
-pub const SHAPES: [(&str, Draw); 10] = [
+pub const SHAPES: [(&str, Draw); 11] = [
     ("tiny", tiny),
     ("small", small),
     ("medium", medium),
@@ -47,10 +49,11 @@ pub const SHAPES: [(&str, Draw); 10] = [
     ("sums at the ceiling", sums_at_ceiling),
     ("abandoned check", abandoned_check),
     ("full size", full_size),
+    ("findings of equal value", equal_values),
 ];
 
 /// How often each shape is drawn: small ones are quick and have the most to show.
-const WEIGHTS: [usize; 10] = [40, 40, 12, 10, 8, 5, 3, 8, 4, 6];
+const WEIGHTS: [usize; 11] = [40, 40, 12, 10, 8, 5, 3, 8, 4, 6, 10];
 
 /// The number of a shape.
 pub fn draw(rng: &mut Rng) -> usize {
@@ -187,6 +190,18 @@ fn full_size(rng: &mut Rng) -> Draft {
     draft
 }
 
+/// Checks of several findings, of which some share the largest value, wherever they stand.
+fn equal_values(rng: &mut Rng) -> Draft {
+    let states = rng.between(6, 30);
+    let mut draft = random(rng, Spec { states, decisions: 2, actions: 2, successors: 8, reach: states, costs: Costs::Few });
+    let wide = |_| {
+        let findings = rng.between(3, 8);
+        Action { cost: cost(rng, Costs::Few).max(1), successors: draw_successors(rng, 0, states, findings, states) }
+    };
+    draft.states[0].node = Node::Decision((0..2).map(wide).collect());
+    draft
+}
+
 /// Adds checks and findings until the sheet has this many bytes.
 fn pad(rng: &mut Rng, draft: &mut Draft, bytes: usize, reach: usize, costs: Costs) {
     let states = draft.states.len();
@@ -256,6 +271,7 @@ fn draw_successors(rng: &mut Rng, number: usize, states: usize, count: usize, re
 fn cost(rng: &mut Rng, costs: Costs) -> u32 {
     let cost = match costs {
         Costs::Ties => rng.below(4),
+        Costs::Few => rng.pick(&[0, 10, 40, 40, 40]),
         Costs::Small => rng.below(41),
         Costs::Steps => 50 * rng.below(41),
         Costs::Wide => rng.below(1_000_001),

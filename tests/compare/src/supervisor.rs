@@ -32,9 +32,9 @@ pub fn run(count: u64, first: u64, price: Option<&str>) -> ExitCode {
         println!("{n:>9} {name}");
     }
     if failures == 0 && count >= LONG_RUN {
-        for name in seen.missing(price.is_some()) {
+        for what in seen.missing(count, price.is_some()) {
             failures += 1;
-            println!("FAILED no sheet had: {name}");
+            println!("FAILED {what}");
         }
     }
     println!("{count} sheets from seed {first} in {:.1} s: {failures} failures", began.elapsed().as_secs_f64());
@@ -93,14 +93,15 @@ fn follow(words: &[String]) -> Result<Counts, String> {
     if complaint.is_empty() {
         Ok(counts)
     } else {
-        Err(format!("{place}: {}{}", complaint.join("\n"), again(&place)))
+        let price = words.get(4).map_or("", String::as_str);
+        Err(format!("{place}: {}{}", complaint.join("\n"), again(&place, price)))
     }
 }
 
 /// How a generated case is made again.
-fn again(place: &str) -> String {
+fn again(place: &str, price: &str) -> String {
     match place.strip_prefix("at seed ") {
-        Some(seed) => format!("\nagain: compare 1 {seed}"),
+        Some(seed) => format!("\nagain: compare 1 {seed} {price}").trim_end().to_string(),
         None => String::new(),
     }
 }

@@ -10,9 +10,6 @@ use std::thread;
 /// Visits go as deep as there are states.
 const STACK_BYTES: usize = 64 << 20;
 
-/// One case in so many is put to the `price` program.
-const PRICE_SAMPLE: u64 = 40;
-
 pub fn run_rows(price: Option<&str>) -> ExitCode {
     let price = price.map(str::to_string);
     on_large_stack(move || rows::run(price.as_deref()))
@@ -46,7 +43,6 @@ fn seeds(count: u64, first: u64, step: u64, price: Option<&str>) -> Result<Cover
     for turn in 0..count {
         let seed = first + turn * step;
         println!("at seed {seed}");
-        let price = price.filter(|_| seed % PRICE_SAMPLE == 0 || count == 1);
         one(seed, price, &mut seen)?;
     }
     Ok(seen)
@@ -59,9 +55,8 @@ fn one(seed: u64, price: Option<&str>, seen: &mut Coverage) -> Result<(), String
     seen.saw(&format!("shape: {}", case.shape));
     seen.saw_if(!case.damaged && case.bytes.len() == 60_001, "nothing wrong but 60,001 bytes");
     seen.saw_if(case.damaged && sweep::read(&case.bytes).is_ok(), "accepted although damaged");
-    if let (Some(program), true) = (price, case.ends) {
-        let word = price::compare(program, &case.bytes).map_err(tell)?;
-        seen.saw(&format!("price: {word}"));
+    if let (Some(program), Some(worked)) = (price, &case.worked) {
+        price::compare(program, &case.bytes, worked, seen).map_err(tell)?;
     }
     Ok(())
 }

@@ -49,22 +49,67 @@ impl Sheet {
         }
         (action.cost + joined).min(CEILING)
     }
+
+    /// The dearest finding of a check (S2.9): the lowest-numbered of those whose value is largest, on both kinds of sheet.
+    pub fn dearest(&self, state: usize, action: usize) -> usize {
+        let successors = &self.states[state].actions[action].successors;
+        let mut dearest = successors[0];
+        for &successor in successors {
+            let (value, largest) = (self.states[successor].value, self.states[dearest].value);
+            if value > largest || value == largest && successor < dearest {
+                dearest = successor;
+            }
+        }
+        dearest
+    }
 }
 
+/// The worked examples (S11), each with the whole text that `price` prints for it, worked out by hand.
 #[cfg(test)]
 mod tests {
     use super::listing;
 
-    /// The whole text for sheet A (S10).
     #[test]
     fn sheet_a() {
-        let expected = "settled 500 3 3\nstage 0 check 1 value 500\nstage 3 end value 0\n";
+        let expected = "settled 500 3 3\nstage 0 check 1 value 500 by 3\nstage 3 end value 0\n";
         assert_eq!(listing(include_bytes!("../../../samples/a.sheet")), expected);
     }
 
     #[test]
-    fn sheet_b() {
-        assert!(listing(include_bytes!("../../../samples/b-worst.sheet")).starts_with("settled 150 4 5\n"));
-        assert!(listing(include_bytes!("../../../samples/b-whole.sheet")).starts_with("settled 180 4 5\n"));
+    fn sheet_b_worst() {
+        let expected = "settled 150 4 5\nstage 0 check 0 value 150 by 2\nstage 1 end value 30\nstage 2 end value 50\n";
+        assert_eq!(listing(include_bytes!("../../../samples/b-worst.sheet")), expected);
+    }
+
+    #[test]
+    fn sheet_b_whole() {
+        let expected = "settled 180 4 5\nstage 0 check 0 value 180 by 2\nstage 1 end value 30\nstage 2 end value 50\n";
+        assert_eq!(listing(include_bytes!("../../../samples/b-whole.sheet")), expected);
+    }
+
+    /// The lines of the endings of sheet C.
+    const ENDINGS_OF_C: &str = "stage 1 end value 10\nstage 2 end value 40\nstage 3 end value 40\nstage 4 end value 20\n";
+
+    #[test]
+    fn sheet_c_worst() {
+        let expected = format!("settled 50 4 7\nstage 0 check 0 value 50 by 2\n{ENDINGS_OF_C}");
+        assert_eq!(listing(include_bytes!("../../../samples/c-worst.sheet")), expected);
+    }
+
+    #[test]
+    fn sheet_c_whole() {
+        let expected = format!("settled 120 6 9\nstage 0 check 0 value 120 by 2\n{ENDINGS_OF_C}");
+        assert_eq!(listing(include_bytes!("../../../samples/c-whole.sheet")), expected);
+    }
+
+    /// Where all values are equal, the first finding is the dearest.
+    #[test]
+    fn sheet_c_without_costs() {
+        let mut bytes = include_bytes!("../../../samples/c-worst.sheet").to_vec();
+        for ending in [32, 44, 56, 68] {
+            bytes[ending + 3..ending + 7].fill(0);
+        }
+        let endings = "stage 1 end value 0\nstage 2 end value 0\nstage 3 end value 0\nstage 4 end value 0\n";
+        assert_eq!(listing(&bytes), format!("settled 10 2 1\nstage 0 check 0 value 10 by 1\n{endings}"));
     }
 }

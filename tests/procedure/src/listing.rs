@@ -3,7 +3,6 @@
 use crate::ldfs::{work, Outcome};
 use crate::questions::accept;
 use crate::Sheet;
-use std::fmt::Write;
 
 /// Works a sheet with the largest budget and gives the lines that are printed.
 pub fn listing(bytes: &[u8]) -> String {
@@ -30,11 +29,7 @@ fn plan_lines(sheet: &Sheet) -> String {
         if !reached[number] {
             continue;
         }
-        let step = match state.terminal_cost {
-            Some(_) => "end".to_string(),
-            None => format!("check {}", state.chosen),
-        };
-        writeln!(lines, "stage {number} {step} value {}", state.value).expect("a string takes any text");
+        lines += &line(sheet, number);
         if state.terminal_cost.is_none() {
             for &successor in &state.actions[state.chosen].successors {
                 reached[successor] = true;
@@ -42,4 +37,14 @@ fn plan_lines(sheet: &Sheet) -> String {
         }
     }
     lines
+}
+
+/// The line of a state. That of a junction ends in the dearest finding of the chosen check (S2.9).
+fn line(sheet: &Sheet, number: usize) -> String {
+    let state = &sheet.states[number];
+    let (value, chosen) = (state.value, state.chosen);
+    match state.terminal_cost {
+        Some(_) => format!("stage {number} end value {value}\n"),
+        None => format!("stage {number} check {chosen} value {value} by {}\n", sheet.dearest(number, chosen)),
+    }
 }

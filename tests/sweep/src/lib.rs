@@ -110,6 +110,8 @@ mod tests {
         assert_eq!(least_cost(include_bytes!("../../../samples/a.sheet")), Ok(500));
         assert_eq!(least_cost(include_bytes!("../../../samples/b-worst.sheet")), Ok(150));
         assert_eq!(least_cost(include_bytes!("../../../samples/b-whole.sheet")), Ok(180));
+        assert_eq!(least_cost(include_bytes!("../../../samples/c-worst.sheet")), Ok(50));
+        assert_eq!(least_cost(include_bytes!("../../../samples/c-whole.sheet")), Ok(120));
     }
 
     #[test]

@@ -8,7 +8,7 @@ use native.Mathlib.Omega.{arith}
 use lib.ListN.{length}
 use Rattle.model.specs.Read.{problemOf, cellsOf}
 use Rattle.listing.proofs.Writing.{wrote-length}
-use Rattle.listing.proofs.Reaching.{state-within, Lined, lined-none, lined-all, lined-room, lined-state, lined-skip}
+use Rattle.listing.proofs.Reaching.{Lined, lined-none, lined-all, lined-room, lined-state, lined-skip}
 use Rattle.listing.proofs.plan.put_states.Statement.{statement}
 use Rattle.listing.proofs.plan.put_states.Tie as tie
 
@@ -42,7 +42,7 @@ put-state-requires c κs =
     let L = loop-of (c .before) in
     let pre = start-of L .pre in
     let below = c .before .before .before .loop-test .taken in
-    (state-within (pre .0) (omega (arith, pre .1 .0 .0)), lined-room _ _ _ _ _ _ (L .loop .inv) below (pre .1 .1 .1))
+    (pre .0, (omega (arith, pre .1 .0 .0), lined-room _ _ _ _ _ _ (L .loop .inv) below (pre .1 .1 .1)))
 
 reach-on-requires : tie.Need-reach-on-requires Inv-loop μ-loop
 reach-on-requires c κs =

@@ -1,6 +1,6 @@
--- The loop's invariant: the largest and the sum so far, joined with the values of the successors left, are those of all of them. A line of
--- code put into the loop lengthens `loop-of` by a `.before`, one before the loop lengthens `start-of`, and one behind it the two answers at
--- the end.
+-- The loop's invariant: the largest and the sum so far, joined with the values of the successors left, are those of all of them, and so is
+-- the dearest so far. A line of code put into the loop lengthens `loop-of` by a `.before`, one before the loop lengthens `start-of`, and
+-- one behind it the two answers at the end.
 use Prim.Native.Nat.{ℕ, _+_, _*_, _-_, _<_, _≤_}
 use mathlib.Core.Path.{_≡_, _∙_}
 use mathlib.Core.List.{List}
@@ -10,7 +10,7 @@ use lib.ListN.{length, drop}
 use Rattle.model.specs.Problem.{valueOf}
 use Rattle.model.specs.Read.{problemOf, cellsOf, actionRead}
 use Rattle.model.specs.Limits.{maxSuccessors}
-use Rattle.sheet.proofs.Joining.{of-kind-fits, Sums, sums-none, sums-more, sums-all}
+use Rattle.sheet.proofs.Joining.{of-kind-fits, Sums, sums-none, sums-more, sums-all, sums-dearest}
 use Rattle.sheet.proofs.Laws.{action-inside, some-successor, head-room}
 use Rattle.sheet.proofs.pricing.price.Statement.{statement}
 use Rattle.sheet.proofs.pricing.price.Tie as tie
@@ -18,45 +18,54 @@ use Rattle.sheet.proofs.pricing.price.Tie as tie
 abbrev successorsAt : List ℕ → ℕ → List ℕ
 successorsAt s o = actionRead (drop o s) .successors
 
-abbrev SumsAt : List ℕ → ℕ → ℕ → ℕ → ℕ → Type 0
+abbrev SumsAt : List ℕ → ℕ → ℕ → ℕ → ℕ → ℕ → Type 0
 SumsAt s o = Sums (valueOf (cellsOf s)) (successorsAt s o)
 
 abbrev Inv-loop : tie.InvT-loop
-Inv-loop sheet table at end total₀ most₀ j₀ total most j = (j < length (successorsAt sheet at)) × SumsAt sheet at total most j
+Inv-loop sheet table at end total₀ most₀ dearest₀ j₀ total most dearest j =
+    (j < length (successorsAt sheet at)) × SumsAt sheet at total most dearest j
 
 abbrev μ-loop : tie.MeasureT-loop
-μ-loop sheet table at end total₀ most₀ j₀ total most j = length (successorsAt sheet at) - j
+μ-loop sheet table at end total₀ most₀ dearest₀ j₀ total most dearest j = length (successorsAt sheet at) - j
 
 -- the loop, from the end of a turn, and the call, from the loop
 abbrev loop-of : tie.After-larger Inv-loop μ-loop → tie.At-loop Inv-loop μ-loop
-loop-of c = c .before .before .before .before
+loop-of c = c .before .before .before .before .before
 
 abbrev start-of : tie.At-loop Inv-loop μ-loop → tie.Start Inv-loop μ-loop
-start-of c = c .before .before .before .before
+start-of c = c .before .before .before .before .before
 
 -- an action has at most sixteen successors, and they are inside
 inside : (c : tie.Start Inv-loop μ-loop) → (length (successorsAt (c .args .sheet .now) (c .args .at)) ≤ maxSuccessors) ×
     (c .args .at + 7 + 2 * length (successorsAt (c .args .sheet .now) (c .args .at)) ≤ length (c .args .sheet .now))
 inside c = action-inside (c .args .sheet .now) (c .args .at) (c .pre .fits)
 
+has-successor : (c : tie.Start Inv-loop μ-loop) → 0 < length (successorsAt (c .args .sheet .now) (c .args .at))
+has-successor c = some-successor (c .args .sheet .now) (c .args .at) (c .pre .fits)
+
 -- a turn adds the value of one successor
 turned : (c : tie.After-larger Inv-loop μ-loop) → let st = start-of (loop-of c) in
-    SumsAt (st .args .sheet .now) (st .args .at) (loop-of c .loop .total + c .before .word-to-long .result) (c .larger .result)
-    (loop-of c .loop .j + 1)
+    SumsAt (st .args .sheet .now) (st .args .at) (loop-of c .loop .total + c .before .before .word-to-long .result) (c .larger .result)
+    (c .before .dearer .result) (loop-of c .loop .j + 1)
 turned c =
-    let value = c .before .word-to-long .ensures .0 ∙ c .before .before .value-at .ensures in
+    let here = c .before .before in
+    let value = here .word-to-long .ensures .0 ∙ here .before .value-at .ensures in
     let (more, sums) = loop-of c .loop .inv in
-    sums-more sums more (c .before .before .before .successor .ensures .0) value (c .before .word-to-long .ensures .1) (c .larger .ensures)
+    sums-more sums more (here .before .before .successor2 .ensures .0) value (here .word-to-long .ensures .1) (c .larger .ensures)
+    (c .before .dearer .ensures)
 
 next-action-requires : tie.Need-next-action-requires Inv-loop μ-loop
 next-action-requires c κs = search needs
 
+successor-requires : tie.Need-successor-requires Inv-loop μ-loop
+successor-requires c κs = (c .before .before .before .pre .fits, has-successor (c .before .before .before))
+
 loop-holds : tie.Need-loop-holds Inv-loop μ-loop
 loop-holds c =
-    let st = c .before .before .before in (some-successor (st .args .sheet .now) (st .args .at) (st .pre .fits), sums-none)
+    let some = has-successor (c .before .before .before .before) in (some, sums-none some (c .successor .ensures .0))
 
-successor-requires : tie.Need-successor-requires Inv-loop μ-loop
-successor-requires c κs = search needs
+successor-requires-2 : tie.Need-successor-requires-2 Inv-loop μ-loop
+successor-requires-2 c κs = search needs
 
 add-j : tie.Need-add-j Inv-loop μ-loop
 add-j c =
@@ -66,7 +75,7 @@ value-at-requires : tie.Need-value-at-requires Inv-loop μ-loop
 value-at-requires c κs =
     let at-loop = c .before in
     let pre = start-of at-loop .pre in
-    record { sheet = pre .sheet; below = rw (c .successor .ensures .0) (pre .below (at-loop .loop .j) (at-loop .loop .inv .0)) }
+    record { sheet = pre .sheet; below = rw (c .successor2 .ensures .0) (pre .below (at-loop .loop .j) (at-loop .loop .inv .0)) }
 
 word-to-long-requires : tie.Need-word-to-long-requires Inv-loop μ-loop
 word-to-long-requires c κs = search needs
@@ -75,6 +84,9 @@ add-total : tie.Need-add-total Inv-loop μ-loop
 add-total c =
     let at-loop = c .before .before .before in
     omega (arith, c .word-to-long .ensures .1, at-loop .loop .inv .1 .summed, at-loop .loop .inv .0, inside (start-of at-loop))
+
+dearer-requires : tie.Need-dearer-requires Inv-loop μ-loop
+dearer-requires c κs = search needs
 
 larger-requires : tie.Need-larger-requires Inv-loop μ-loop
 larger-requires c κs = search needs
@@ -92,7 +104,7 @@ loop-less : tie.Need-loop-less Inv-loop μ-loop
 loop-less c = search needs
 
 loop-again : tie.Need-loop-again Inv-loop μ-loop
-loop-again c = (omega (arith, c .if1 .left, loop-of (c .before) .before .next-action .ensures .0), turned (c .before))
+loop-again c = (omega (arith, c .if1 .left, loop-of (c .before) .before .before .next-action .ensures .0), turned (c .before))
 
 action-cost-requires : tie.Need-action-cost-requires Inv-loop μ-loop
 action-cost-requires c κs = search needs
@@ -112,7 +124,7 @@ sum-fits c =
     let st = start-of (loop-of turn) in
     let top = turned turn in
     let fit = of-kind-fits (problemOf (st .args .sheet .now) .kind) (turn .larger .result)
-    (loop-of turn .loop .total + turn .before .word-to-long .result) in
+    (loop-of turn .loop .total + turn .before .before .word-to-long .result) in
     omega (arith, fit, c .of-kind .ensures, top .summed, top .largest, more, inside st)
 
 add-cut-off : tie.Need-add-cut-off Inv-loop μ-loop
@@ -127,8 +139,9 @@ returns c =
     let at-loop = loop-of turn in
     let a = start-of at-loop .args in
     let last : at-loop .loop .j + 1 ≡ length (successorsAt (a .sheet .now) (a .at)) =
-    omega (arith, at-loop .loop .inv .0, at-loop .before .next-action .ensures .0, c .before .before .before .before .if1 .taken) in
-    let all = sums-all (turned turn) (problemOf (a .sheet .now) .kind) last in (cc, c .cut-off .ensures .1)
+    omega (arith, at-loop .loop .inv .0, at-loop .before .before .next-action .ensures .0, c .before .before .before .before .if1 .taken) in
+    let all = sums-all (turned turn) (problemOf (a .sheet .now) .kind) last in
+    (cc, c .cut-off .ensures .1, sums-dearest (turned turn) last)
 
 pub price-spec : {M : Type 1} → statement M
 price-spec =
@@ -137,12 +150,14 @@ price-spec =
     Inv-loop
     μ-loop
     next-action-requires
-    loop-holds
     successor-requires
+    loop-holds
+    successor-requires-2
     add-j
     value-at-requires
     word-to-long-requires
     add-total
+    dearer-requires
     larger-requires
     add-if1
     mul-if1

@@ -1,0 +1,67 @@
+-- S10.9: the run that goes from each decision to the dearest successor of its chosen action, which its line names by `by`.
+use Prim.Native.Nat.{ℕ, _+_, _<_}
+use mathlib.Core.Path.{_≡_, refl}
+use mathlib.Core.Bool.{true}
+use mathlib.Core.List.{List, [], _∷_}
+use native.Mathlib.Omega.{arith}
+use Rattle.model.specs.Problem.{worst, Action, Node, terminal, decision, Problem, Cell, states, nodeAt, actionAt, cellOf, valueOf, solved}
+use Rattle.model.specs.Problem.{_∈_, here, there}
+use Rattle.model.specs.Limits.{ceiling}
+use Rattle.model.specs.QValue.{Dearest}
+use Rattle.model.specs.Policy.{Reach, arrived, onward, written}
+use Rattle.theory.specs.Consistent.{WellFormed, Consistent}
+use Rattle.theory.proofs.Basics.{downward}
+use Rattle.theory.proofs.DearestLaws.{action-dearest, dearest-joined}
+use Rattle.listing.specs.Listing.{dearestChosen, Run, ends, goes}
+use Rattle.listing.proofs.Reaching.{chosen-in}
+
+module _ (p : Problem) (cells : List Cell) (wf : WellFormed p) (con : Consistent p cells) where
+  -- what a decision's line names is the dearest successor of its chosen action
+  pub names-dearest : (s : ℕ) (acts : List Action) → nodeAt p s ≡ decision acts →
+      Dearest (valueOf cells) (actionAt acts (cellOf cells s .chosen) .successors) (dearestChosen p cells s)
+  names-dearest s acts e =
+      rw e (action-dearest p wf s (cellOf cells s .chosen) acts e (chosen-in p cells wf con s acts e) (valueOf cells))
+
+  -- a run from s, over states that the plan reaches, that costs the value of s
+  abbrev RunsOn : ℕ → Type 0
+  RunsOn s = (on : List ℕ) × Run p cells s on (valueOf cells s) × ((t : ℕ) → t ∈ on → Reach p (written cells) s t)
+
+  -- at a terminal the run is that state alone
+  stays : (s cost : ℕ) → nodeAt p s ≡ terminal cost → valueOf cells s ≡ cost → RunsOn s
+  stays s cost e v = (s ∷ [], rw v (ends e), is)
+    where
+      is : (t : ℕ) → t ∈ (s ∷ []) → Reach p (written cells) s t
+      is t here = arrived
+      is t (there m) = absurd (elim m [ ])
+
+  -- at a decision it goes on to the dearest successor
+  goes-on : (s : ℕ) (acts : List Action) → nodeAt p s ≡ decision acts →
+      dearestChosen p cells s ∈ actionAt acts (cellOf cells s .chosen) .successors →
+      valueOf cells s ≡ actionAt acts (cellOf cells s .chosen) .cost + valueOf cells (dearestChosen p cells s) →
+      RunsOn (dearestChosen p cells s) → RunsOn s
+  goes-on s acts e m v (on, run, reach) = (s ∷ on, rw v (goes e run), is)
+    where
+      is : (t : ℕ) → t ∈ (s ∷ on) → Reach p (written cells) s t
+      is t here = arrived
+      is t (there l) = onward e refl m (reach t l)
+
+  -- so from every solved state of a worst sheet whose value is below the ceiling
+  abbrev Runs : ℕ → Type 0
+  Runs s = solved (cellOf cells s) ≡ true → valueOf cells s < ceiling → RunsOn s
+
+  pub runs-on : p .kind ≡ worst → (s : ℕ) → Runs s
+  runs-on kind = downward Runs (states p) (λ s above sol small. go s above sol small (nodeAt p s) refl)
+    where
+      go : (s : ℕ) → ((t : ℕ) → s < t → t < states p → Runs t) → solved (cellOf cells s) ≡ true →
+          valueOf cells s < ceiling →
+          (n : Node) → nodeAt p s ≡ n → RunsOn s
+      go s above sol small (terminal cost) e = stays s cost e (con .sound s .at-cost cost e sol)
+      go s above sol small (decision acts) e =
+          let d = names-dearest s acts e in
+          let settles = con .sound s .settles acts e sol in
+          let (later, exists) = wf .forward s (cellOf cells s .chosen) (dearestChosen p cells s) acts e (d .among) in
+          let priced = rw kind at (settles .priced) in
+          let costs : valueOf cells s ≡ actionAt acts (cellOf cells s .chosen) .cost + valueOf cells (dearestChosen p cells s) =
+          omega (arith, priced, dearest-joined (valueOf cells) d) in
+          goes-on s acts e (d .among) costs
+          (above (dearestChosen p cells s) later exists (settles .below (dearestChosen p cells s) (d .among)) (omega arith))
