@@ -30,7 +30,7 @@ use Rattle.theory.proofs.Demands.{demand2, worked-accepted}
 use Rattle.listing.specs.Text.{ascii}
 use Rattle.listing.specs.Listing.{field, chosenSuccessorsOf, chosenSuccessors, dearestChosen, listed, reachedBelow, reached}
 use Rattle.listing.specs.Listing.{stateLines, Run, listing}
-use Rattle.listing.proofs.Runs.{names-dearest, runs-on}
+use Rattle.listing.proofs.Runs.{run-only, names-dearest, runs-on}
 
 -- a test or another
 or-true : (a b : Bool) → (a || b) ≡ true → (a ≡ true) ⊎ (b ≡ true)
@@ -165,11 +165,13 @@ module _ (s : List ℕ) (bytes : Bytes s) (entries : ℕ) where
       (dearestChosen (problemOf s) (cellsOf after) t)
   line-names e = names-dearest (problemOf s) (cellsOf after) (formed e) (consistent e)
 
-  -- S10.9: on a worst sheet the run that begins at the start and goes on by `by` comes to an ending, every stage of it has a line, and its
-  -- checks and that ending cost the price together
+  -- S10.9: on a worst sheet the run that begins at the start and goes on by `by` comes to an ending, every stage of it has a line, its
+  -- checks and that ending cost the price together, and there is no other
   pub run-costs : number (answer .outcome) ≡ 100 → problemOf s .kind ≡ worst →
       (on : List ℕ) × Run (problemOf s) (cellsOf after) (problemOf s .start) on (startCost s)
       × ((t : ℕ) → t ∈ on → (t < states (problemOf s)) × (reached (problemOf s) (cellsOf after) t ≡ true))
+      × ((also-on : List ℕ) (c : ℕ) → Run (problemOf s) (cellsOf after) (problemOf s .start) also-on c →
+      (also-on ≡ on) × (c ≡ startCost s))
   run-costs e kind =
       let demanded = demand2 s bytes entries largest in
       let d = demanded .settled e in
@@ -177,7 +179,7 @@ module _ (s : List ℕ) (bytes : Bytes s) (entries : ℕ) where
       let (on, run, reach) = runs-on (problemOf s) (cellsOf after) (formed e) (consistent e) kind (problemOf s .start) (d .marked)
       (omega (arith, d .below, d .price)) in
       let costs = subst (Run (problemOf s) (cellsOf after) (problemOf s .start) on) value run in
-      (on, costs, λ t m. has-line (problemOf s) (cellsOf after) (formed e) (reach t m))
+      (on, costs, (λ t m. has-line (problemOf s) (cellsOf after) (formed e) (reach t m)), λ also-on c other. run-only costs other)
 
   -- over: the ceiling, which the least cost of the start is at least
   pub over-prints : number (answer .outcome) ≡ 101 → (listing s entries ≡ line (ascii "over ") ceiling) × (ceiling ≤ startCost s)

@@ -15,6 +15,15 @@ use Rattle.theory.proofs.DearestLaws.{action-dearest, dearest-joined}
 use Rattle.listing.specs.Listing.{dearestChosen, Run, ends, goes}
 use Rattle.listing.proofs.Reaching.{chosen-in}
 
+-- from a state there is one such run at the most
+pub run-only : {p : Problem} {cells : List Cell} {s c d : ℕ} {on also-on : List ℕ} → Run p cells s on c →
+    Run p cells s also-on d →
+    (also-on ≡ on) × (d ≡ c)
+run-only (ends e) (ends e′) = (refl, cc (e, e′))
+run-only (ends e) (goes e′ r′) = let z : _≡_ {A = ℕ} 0 1 = cc (e, e′) in absurd (omega arith)
+run-only (goes e r) (ends e′) = let z : _≡_ {A = ℕ} 0 1 = cc (e, e′) in absurd (omega arith)
+run-only (goes e r) (goes e′ r′) = let (same, costs) = run-only r r′ in (cc (e, e′, same, costs), cc (e, e′, same, costs))
+
 module _ (p : Problem) (cells : List Cell) (wf : WellFormed p) (con : Consistent p cells) where
   -- what a decision's line names is the dearest successor of its chosen action
   pub names-dearest : (s : ℕ) (acts : List Action) → nodeAt p s ≡ decision acts →

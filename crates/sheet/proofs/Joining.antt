@@ -106,6 +106,7 @@ module _ (v : ℕ → ℕ) where
       same true = rw own
       same false = rw own
 
+-- the loop begins with the first, takes one successor a turn, and ends with the dearest of all
 module _ (v : ℕ → ℕ) (ts : List ℕ) where
   dearest-begin : 0 < length ts → dearest v ts ≡ dearestWith v (getD ts 0 0) 0 ts
   dearest-begin some = go ts some
