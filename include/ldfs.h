@@ -24,10 +24,10 @@
  * The version of this interface: of the function, its numbers, and the bytes of a sheet, a table and a result. MAJOR changes where a host
  * or a stored sheet of before would no longer do, MINOR where something is added, PATCH where neither. A sheet's bytes hold no version.
  */
-#define LDFS_VERSION_MAJOR 1
+#define LDFS_VERSION_MAJOR 2
 #define LDFS_VERSION_MINOR 0
 #define LDFS_VERSION_PATCH 0
-#define LDFS_VERSION "1.0.0"
+#define LDFS_VERSION "2.0.0"
 
 #ifdef __cplusplus
 extern "C" {
@@ -36,11 +36,11 @@ extern "C" {
 /* Lengths in bytes, and limits. */
 #define LDFS_SHEET_LEAST 20      /* a sheet has at least this many bytes, */
 #define LDFS_SHEET_MOST 60000    /* and at most this many */
-#define LDFS_STAGES_MOST 1024    /* stages of a sheet, at most */
+#define LDFS_STAGES_MOST 4096    /* stages of a sheet, at most */
 #define LDFS_ENTRY_BYTES 4       /* an entry of the index table: 32 bits, least significant byte first */
-#define LDFS_TABLE_LEAST 4096    /* the index table: 1,024 entries, or more */
+#define LDFS_TABLE_LEAST 16384   /* the index table: 4,096 entries, or more */
 #define LDFS_RESULT_LEAST 24     /* the result: three numbers of 64 bits, or more room */
-#define LDFS_STACK_BYTES 204800  /* stack that a call needs, at most: measured and rounded up (docs/HOST.md), not proved */
+#define LDFS_STACK_BYTES 671744  /* stack that a call needs, at most: measured and rounded up (docs/HOST.md), not proved */
 #define LDFS_CEILING 1000000000  /* in cents: a value at the ceiling means "that much or more" [S2.7] */
 
 /* Where the numbers stand in the result: eight bytes each, least significant first [S9.5]. */
@@ -76,9 +76,9 @@ extern "C" {
  * settled for the whole sheet before the next, so refusal k means that questions 1 to k - 1 are answered yes and question k is not. The
  * sheet is as it was. 1 and 9 are about what the host lent; 2 to 8 are faults of the sheet ..
  */
-#define LDFS_REFUSED_ROOM 1     /* [S4.1] the table has fewer than 4,096 bytes, or the result fewer than 24 [S9.6] */
+#define LDFS_REFUSED_ROOM 1     /* [S4.1] the table has fewer than 16,384 bytes, or the result fewer than 24 [S9.6] */
 #define LDFS_REFUSED_SIZE 2     /* [S4.2] the sheet has fewer than 20 bytes, or more than 60,000 */
-#define LDFS_REFUSED_HEAD 3     /* [S4.3] it does not begin with a head: kind 0 or 1, 1 to 1,024 stages, start below their number */
+#define LDFS_REFUSED_HEAD 3     /* [S4.3] it does not begin with a head: kind 0 or 1, 1 to 4,096 stages, start below their number */
 #define LDFS_REFUSED_FIELDS 4   /* [S4.4] what follows is not exactly those stages, in the format's order, counts and lengths */
 #define LDFS_REFUSED_RANGES 5   /* [S4.5] a cost, a value, a mark or a chosen check is out of its range */
 #define LDFS_REFUSED_FINDINGS 6 /* [S4.6] findings do not ascend strictly, or one is not above its junction's number, or is no stage */
@@ -97,7 +97,7 @@ extern "C" {
  *
  *   sheet    the sheet's bytes; work changes values, marks and chosen checks, and a refusal changes nothing
  *   table    the index table, whatever it holds. When the sheet is worked, entry i becomes the byte offset of stage i's field and every
- *            entry past the last stage 0, also past the 1,024th. Refusals 2 to 9 make every entry 0; refusal 1 leaves the table as it
+ *            entry past the last stage 0, also past the 4,096th. Refusals 2 to 9 make every entry 0; refusal 1 leaves the table as it
  *            is. One to three bytes left over behind the last whole entry are not touched.
  *   budget   the most raises that this call may make. UINT64_MAX is as many as it takes. 0 works nothing and asks questions 1 to 8
  *            only: LDFS_REFUSED_BUDGET then says that the sheet is valid, and 2 to 8 is the sheet's fault.

@@ -67,6 +67,16 @@ def sheet_c(kind):
     ])
 
 
+def many_stages(stages):
+    """A junction whose one check (100) leads to the first ending and to the last, and endings, each of which costs its own number."""
+    return sheet(WORST, [junction([(100, [1, stages - 1])])] + [ending(number) for number in range(1, stages)])
+
+
+def chain(junctions):
+    """Each junction has one check (1), which leads to the next stage; the ending costs 0. All values are least costs."""
+    return sheet(WORST, [junction([(1, [number + 1])], value=junctions - number) for number in range(junctions)] + [ending(0)])
+
+
 class Draws:
     """Park and Miller's numbers: each is 16,807 times the one before, modulo 2,147,483,647."""
 
@@ -109,6 +119,10 @@ SAMPLES = {
     "c-worst.sheet": sheet_c(WORST),
     "c-whole.sheet": sheet_c(WHOLE),
     "forty.sheet": forty(),
+    # as many stages as a sheet may have, one more, and the deepest chain that 60,000 bytes hold
+    "stages-4096.sheet": many_stages(4096),
+    "stages-4097.sheet": many_stages(4097),
+    "deep.sheet": chain(3332),
     # one for each refusal that a sheet alone can get
     "refused-2.sheet": sheet(WORST, [ending(0)])[:19],
     "refused-3.sheet": head(WORST, 0) + sheet_b()[8:],

@@ -5,7 +5,7 @@
 #include <stddef.h>
 #include <stdint.h>
 
-enum { TERMINAL = 2, ACTION = 4, MOST_STATES = 1024, CEILING = 1000000000 };
+enum { TERMINAL = 2, ACTION = 4, MOST_STATES = 4096, CEILING = 1000000000 };
 
 uint32_t bound_touch(uint8_t *sheet, size_t sheet_length, uint8_t *table, size_t table_length, uint64_t budget, uint8_t *result,
                      size_t result_length);

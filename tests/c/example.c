@@ -50,7 +50,10 @@ static const uint8_t sheet_c[] = {
     2, 0, 9, 0, 0, 0, 40, 0, 0, 0, 0, 0,            /* stage 3 */
     2, 0, 9, 0, 0, 0, 20, 0, 0, 0, 0, 0,            /* stage 4 */
 };
-enum { C_KIND = 3, C_FIRST_ENDING = 32, C_ENDINGS = 4, ENDING_BYTES = 12 };
+enum { C_KIND = 3, C_FIRST_ENDING = 32, C_ENDINGS = 4 };
+
+/* Fields of a sheet; the junction has one check of one finding. */
+enum { HEAD_BYTES = 8, ENDING_BYTES = 12, JUNCTION_BYTES = 18 };
 
 static int failures;
 
@@ -207,16 +210,16 @@ static void one_ending(void)
 }
 
 /* A chain of 999 junctions of cost 1,000,000, all values least costs: below the ceiling, and at it. */
-enum { CHAIN = 999, CHAIN_BYTES = 8 + CHAIN * 18 + 12 };
+enum { CHAIN = 999, CHAIN_BYTES = HEAD_BYTES + CHAIN * JUNCTION_BYTES + ENDING_BYTES };
 
 static void chain(const char *name, uint32_t ending, uint32_t number, uint64_t price)
 {
     static uint8_t sheet[CHAIN_BYTES];
-    static const uint8_t head[8] = {1, 0, 5, 0, (CHAIN + 1) / 256, (CHAIN + 1) % 256, 0, 0};
+    static const uint8_t head[HEAD_BYTES] = {1, 0, 5, 0, (CHAIN + 1) / 256, (CHAIN + 1) % 256, 0, 0};
     memset(sheet, 0, sizeof sheet);
     memcpy(sheet, head, sizeof head);
     uint8_t *at = sheet + sizeof head;
-    for (uint32_t stage = 0; stage < CHAIN; stage++, at += 18) {
+    for (uint32_t stage = 0; stage < CHAIN; stage++, at += JUNCTION_BYTES) {
         uint32_t least = (CHAIN - stage) * 1000000 + ending;
         at[0] = 3;
         at[2] = 6;
@@ -234,10 +237,41 @@ static void chain(const char *name, uint32_t ending, uint32_t number, uint64_t p
     solve_expecting(name, sheet, sizeof sheet, UINT64_MAX, number, price, 1, 0);
 }
 
+/* Endings alone, each of which costs its own number; the start is the last. As many as a sheet may have, or one more. */
+enum { MOST_BYTES = HEAD_BYTES + (LDFS_STAGES_MOST + 1) * ENDING_BYTES, LAST = 4095, LAST_OFFSET = 49148 };
+
+static const uint8_t *endings(uint32_t stages)
+{
+    static uint8_t sheet[MOST_BYTES];
+    const uint8_t head[HEAD_BYTES] = {1, 0, 5, 0, (uint8_t)(stages / 256), (uint8_t)(stages % 256), (uint8_t)((stages - 1) / 256),
+                                      (uint8_t)((stages - 1) % 256)};
+    memset(sheet, 0, sizeof sheet);
+    memcpy(sheet, head, sizeof head);
+    for (uint32_t stage = 0; stage < stages; stage++) {
+        uint8_t *at = sheet + HEAD_BYTES + ENDING_BYTES * stage;
+        at[0] = 2;
+        at[2] = 9;
+        put_big(at + LDFS_ENDING_COST, stage);
+    }
+    return sheet;
+}
+
+/* As many stages as a sheet may have: stage 4095 stands at 8 + 4,095 * 12. */
+static void most_stages(void)
+{
+    static uint8_t sheet[MOST_BYTES];
+    memcpy(sheet, endings(LDFS_STAGES_MOST), sizeof sheet);
+    memset(table, 7, sizeof table);
+    solve_expecting("4,096 stages", sheet, HEAD_BYTES + LDFS_STAGES_MOST * ENDING_BYTES, UINT64_MAX, LDFS_SETTLED, LAST, 1, 1);
+    expect(little(table + LAST * LDFS_ENTRY_BYTES, LDFS_ENTRY_BYTES) == LAST_OFFSET, "offset of stage 4095");
+    expect(big(sheet + LAST_OFFSET + LDFS_ENDING_VALUE, 4) == LAST && sheet[LAST_OFFSET + LDFS_ENDING_MARK] == 1, "stage 4095 is settled");
+    expect_rest_of_table(LDFS_STAGES_MOST, 7);
+}
+
 /* A refusal of 2 to 9: the result is 0, the sheet is as it was, and every entry of the table is 0. */
 static void refused(const char *name, const uint8_t *sheet, size_t length, uint64_t budget, uint32_t number)
 {
-    uint8_t copy[sizeof sheet_a];
+    static uint8_t copy[MOST_BYTES];
     memcpy(copy, sheet, length);
     memset(table, 7, sizeof table);
     memset(result, 7, sizeof result);
@@ -255,28 +289,52 @@ static const uint8_t *changed(const uint8_t *sheet, size_t length, size_t place,
     return copy;
 }
 
-/* Refusal 1 leaves the table as it is; with too short a result, everything. */
+/* Sheet A with so much of the table and of the result, both filled with 7. */
+static uint32_t solve_a(uint8_t *sheet, size_t table_length, size_t result_length)
+{
+    memcpy(sheet, sheet_a, sizeof sheet_a);
+    memset(table, 7, sizeof table);
+    memset(result, 7, sizeof result);
+    uint32_t number = ldfs_solve(sheet, sizeof sheet_a, table, table_length, UINT64_MAX, result, result_length);
+    printf("a table of %zu bytes and a result of %zu: %" PRIu32 "\n", table_length, result_length, number);
+    return number;
+}
+
+/* Every byte from there on is 7. */
+static bool sevens(const uint8_t *at, size_t bytes)
+{
+    for (size_t i = 0; i < bytes; i++)
+        if (at[i] != 7)
+            return false;
+    return true;
+}
+
+/* Refusal 1 leaves the table as it is. */
+static void refused_for_want_of_table(size_t table_length)
+{
+    uint8_t sheet[sizeof sheet_a];
+    expect(solve_a(sheet, table_length, sizeof result) == LDFS_REFUSED_ROOM, "number");
+    expect(little(result, 8) == 0 && little(result + 8, 8) == 0 && little(result + 16, 8) == 0, "the result is 0");
+    expect(sevens(table, sizeof table), "the table is unaltered");
+    expect(memcmp(sheet, sheet_a, sizeof sheet) == 0, "the sheet is unaltered");
+}
+
+/* The table that version 1 of the interface wanted is too short, and so is one that lacks a byte. With too short a result nothing is
+   altered. */
+enum { FORMER_TABLE = 4096 };
+
 static void refused_for_want_of_room(void)
 {
     uint8_t sheet[sizeof sheet_a];
-    memcpy(sheet, sheet_a, sizeof sheet);
-    memset(table, 7, sizeof table);
-    memset(result, 7, sizeof result);
+    refused_for_want_of_table(FORMER_TABLE);
+    refused_for_want_of_table(LDFS_TABLE_LEAST - 1);
+    expect(solve_a(sheet, LDFS_TABLE_LEAST, sizeof result) == LDFS_SETTLED, "number");
+    expect(little(table, LDFS_ENTRY_BYTES) == offsets_a[0], "offset of stage 0");
+    expect(sevens(table + LDFS_TABLE_LEAST, sizeof table - LDFS_TABLE_LEAST), "nothing is written behind the table");
 
-    uint32_t number = ldfs_solve(sheet, sizeof sheet, table, LDFS_TABLE_LEAST - 1, UINT64_MAX, result, sizeof result);
-    printf("a table of 4,095 bytes: %" PRIu32 "\n", number);
-    expect(number == LDFS_REFUSED_ROOM, "number");
-    expect(little(result, 8) == 0 && little(result + 8, 8) == 0 && little(result + 16, 8) == 0, "the result is 0");
-
-    memset(result, 7, sizeof result);
-    number = ldfs_solve(sheet, sizeof sheet, table, sizeof table, UINT64_MAX, result, LDFS_RESULT_LEAST - 1);
-    printf("a result of 23 bytes: %" PRIu32 "\n", number);
-    expect(number == LDFS_REFUSED_ROOM, "number");
-    for (size_t i = 0; i < sizeof result; i++)
-        expect(result[i] == 7, "the result is unaltered");
-
-    for (size_t i = 0; i < sizeof table; i++)
-        expect(table[i] == 7, "the table is unaltered");
+    expect(solve_a(sheet, sizeof table, LDFS_RESULT_LEAST - 1) == LDFS_REFUSED_ROOM, "number");
+    expect(sevens(result, sizeof result), "the result is unaltered");
+    expect(sevens(table, sizeof table), "the table is unaltered");
     expect(memcmp(sheet, sheet_a, sizeof sheet) == 0, "the sheet is unaltered");
 }
 
@@ -298,6 +356,7 @@ static void every_refusal(void)
     refused_for_want_of_room();
     slices_of_no_bytes();
     refused("19 bytes", sheet_a, LDFS_SHEET_LEAST - 1, UINT64_MAX, LDFS_REFUSED_SIZE);
+    refused("4,097 stages", endings(LDFS_STAGES_MOST + 1), MOST_BYTES, UINT64_MAX, LDFS_REFUSED_HEAD);
     refused("number of stages 0", changed(sheet_b, b, B_STAGES_LOW, 0), b, UINT64_MAX, LDFS_REFUSED_HEAD);
     refused("check cost 0 and a cut last field", changed(sheet_a, a, A_FIRST_COST, 0), a - 1, UINT64_MAX, LDFS_REFUSED_FIELDS);
     refused("check cost 0", changed(sheet_a, a, A_FIRST_COST, 0), a, UINT64_MAX, LDFS_REFUSED_RANGES);
@@ -329,6 +388,7 @@ int main(void)
     one_ending();
     chain("chain, ending 999,999", 999999, LDFS_SETTLED, 999999999);
     chain("chain, ending 1,000,000", 1000000, LDFS_OVER, LDFS_CEILING);
+    most_stages();
     every_refusal();
     if (failures > 0) {
         printf("%d not as expected\n", failures);

@@ -9,7 +9,7 @@
 
 #define CEILING 1000000000u
 #define MOST_COST 1000000u
-#define MOST_STATES 1024u
+#define MOST_STATES 4096u
 
 enum tag { HEAD = 1, TERMINAL = 2, DECISION = 3, ACTION = 4 };
 enum visit { FAILURE, SUCCESS, HALT };

@@ -1,5 +1,5 @@
 /*
- * Measures the stack that ldfs_solve needs for the deepest sheets: chains of 1,023 junctions, the most that 1,024 stages allow.
+ * Measures the stack that ldfs_solve needs for the deepest sheets: chains of 3,332 junctions, the most that 60,000 bytes hold.
  *
  * The call runs in a thread whose stack is filled with a pattern; what the call has overwritten is what it used. What the same thread
  * uses where it calls a function that does nothing is taken off. Two chains are worked: in one the deepest visit marks the ending, in the
@@ -18,7 +18,10 @@
 #include <stdlib.h>
 #include <string.h>
 
-enum { DEEPEST = LDFS_STAGES_MOST - 1, STACK_BYTES = 16 << 20, PATTERN = 0xa5, COST = 7, UNSEEN = 1024 };
+/* In bytes; the junction has one check of one finding. */
+enum { HEAD = 8, ENDING = 12, JUNCTION = 18 };
+
+enum { DEEPEST = (LDFS_SHEET_MOST - HEAD - ENDING) / JUNCTION, STACK_BYTES = 16 << 20, PATTERN = 0xa5, COST = 7, UNSEEN = 1024 };
 
 static uint8_t sheet[LDFS_SHEET_MOST];
 static uint8_t table[LDFS_TABLE_LEAST];
@@ -37,11 +40,11 @@ static void put_big(uint8_t *at, uint32_t x)
 static void make_chain(uint32_t junctions, int raise_last)
 {
     uint8_t *at = sheet;
-    const uint8_t head[8] = {1, 0, 5, 0, (uint8_t)((junctions + 1) / 256), (uint8_t)((junctions + 1) % 256), 0, 0};
+    const uint8_t head[HEAD] = {1, 0, 5, 0, (uint8_t)((junctions + 1) / 256), (uint8_t)((junctions + 1) % 256), 0, 0};
     memset(sheet, 0, sizeof sheet);
     memcpy(at, head, sizeof head);
     at += sizeof head;
-    for (uint32_t stage = 0; stage < junctions; stage++, at += 18) {
+    for (uint32_t stage = 0; stage < junctions; stage++, at += JUNCTION) {
         uint32_t below = junctions - stage - (raise_last ? 1 : 0);
         at[0] = 3;
         at[2] = 6;
@@ -54,7 +57,7 @@ static void make_chain(uint32_t junctions, int raise_last)
     }
     at[0] = 2;
     at[2] = 9;
-    sheet_length = (size_t)(at + 12 - sheet);
+    sheet_length = (size_t)(at + ENDING - sheet);
 }
 
 /* A function of the same form, which does nothing. */

@@ -4,11 +4,11 @@ use mathlib.Core.Path.{_≡_, refl, ap, sym, _∙_}
 use mathlib.Core.List.{List, [], _∷_, _++_, append-assoc}
 use native.Mathlib.Omega.{arith}
 use native.Mathlib.Numerals.{add-one}
-use lib.ListN.{length, getD, take, drop, set, take-append-drop}
+use lib.ListN.{length, getD, take, drop, set, replicate, take-append-drop, length-append, length-replicate}
 use lib.Seq.{take-all, take-suc, drop-drop, sets-eq}
 use Rattle.layout.specs.Placed.{placed}
 use Rattle.layout.proofs.Placed.{placed-length, placed-before, placed-after, placed-then}
-use Rattle.host.specs.Host.{le32, le64, entryBytes, lengthened}
+use Rattle.host.specs.Host.{le32, le64, entryBytes, filledUp}
 
 -- four stores, one after the other, of a number's bytes
 pub stored : (s : List ℕ) (at x a b c d : ℕ) → at + 4 ≤ length s → a ≡ x % 256 → b ≡ x / 256 % 256 →
@@ -28,20 +28,16 @@ three-put s s′ s″ s‴ x y z h p q r =
     let long : length s′ ≡ length s = ap length p ∙ placed-length s 0 (le64 x) (omega arith) in
     placed-then s s′ s‴ (le64 x) (le64 y ++ le64 z) 0 (omega arith) p (placed-then s′ s″ s‴ (le64 y) (le64 z) 8 (omega arith) q r)
 
--- One more entry of a table that is cut or filled up.
-lengthened-count : (t : List ℕ) (n : ℕ) → length (lengthened t n) ≡ n
-unfolding lengthened
-lengthened-count t zero = refl
-lengthened-count [] (suc n) = ap suc (lengthened-count [] n)
-lengthened-count (x ∷ xs) (suc n) = ap suc (lengthened-count xs n)
+-- One more entry of a table that is filled up with zeros.
+filled-count : (t : List ℕ) (n : ℕ) → length t ≤ n → length (filledUp t n) ≡ n
+filled-count t n h = rw (length-append, length-replicate) (omega arith)
 
-lengthened-at : (t : List ℕ) (n i : ℕ) → i < n → getD (lengthened t n) i 0 ≡ getD t i 0
-unfolding lengthened
-lengthened-at t zero i lt = absurd (omega arith)
-lengthened-at [] (suc n) zero lt = refl
-lengthened-at [] (suc n) (suc i) lt = lengthened-at [] n i (omega arith)
-lengthened-at (x ∷ xs) (suc n) zero lt = refl
-lengthened-at (x ∷ xs) (suc n) (suc i) lt = lengthened-at xs n i (omega arith)
+filled-at : (t : List ℕ) (k i : ℕ) → getD (t ++ replicate k 0) i 0 ≡ getD t i 0
+filled-at [] zero i = refl
+filled-at [] (suc k) zero = refl
+filled-at [] (suc k) (suc i) = filled-at [] k i
+filled-at (x ∷ xs) k zero = refl
+filled-at (x ∷ xs) k (suc i) = filled-at xs k i
 
 entries-joined : (xs ys : List ℕ) → entryBytes (xs ++ ys) ≡ entryBytes xs ++ entryBytes ys
 unfolding entryBytes
@@ -50,25 +46,27 @@ entries-joined (x ∷ xs) ys = rw (entries-joined xs ys)
 
 -- the loop over the entries
 pub record Entered (bytes₀ table : List ℕ) (n : ℕ) (bytes : List ℕ) (i : ℕ) : Type 0 where
+  pub fits : length table ≤ n
   pub upto : i ≤ n
   pub long : length bytes ≡ length bytes₀
-  pub done : take (4 * i) bytes ≡ entryBytes (take i (lengthened table n))
+  pub done : take (4 * i) bytes ≡ entryBytes (take i (filledUp table n))
   pub rest : drop (4 * i) bytes ≡ drop (4 * i) bytes₀
 
-pub entered-none : (bytes table : List ℕ) (n : ℕ) → Entered bytes table n bytes 0
+pub entered-none : (bytes table : List ℕ) (n : ℕ) → length table ≤ n → Entered bytes table n bytes 0
 unfolding entryBytes
-entered-none bytes table n = record { upto = omega arith; long = refl; done = refl; rest = refl }
+entered-none bytes table n fits = record { fits = fits; upto = omega arith; long = refl; done = refl; rest = refl }
 
 pub entered-more : (bytes₀ table : List ℕ) (n : ℕ) (bytes : List ℕ) (i : ℕ) → Entered bytes₀ table n bytes i → i < n →
     4 * n ≤ length bytes₀ → (x : ℕ) → x ≡ getD table i 0 → (bytes′ : List ℕ) →
     length bytes′ ≡ length bytes → bytes′ ≡ placed (4 * i) (le32 x) bytes → Entered bytes₀ table n bytes′ (i + 1)
 unfolding entryBytes
 entered-more bytes₀ table n bytes i h lt room x at bytes′ same e = record {
+  fits = h .fits;
   upto = omega arith;
   long = same ∙ h .long;
   done =
       rw (next, e, placed-before bytes (4 * i) (le32 x) inside)
-      (rw (add-one, take-suc (lengthened table n) i 0 within, entries-joined, lengthened-at table n i lt, ← at, h .done));
+      (rw (add-one, take-suc (filledUp table n) i 0 within, entries-joined, filled-at, ← at, h .done));
   rest =
       rw (next, e, placed-after bytes (4 * i) (le32 x) inside)
       (sym (drop-drop 4 (4 * i) bytes) ∙ ap (drop 4) (h .rest) ∙ drop-drop 4 (4 * i) bytes₀);
@@ -77,14 +75,14 @@ entered-more bytes₀ table n bytes i h lt room x at bytes′ same e = record {
     next : 4 * (i + 1) ≡ 4 * i + 4
     next = omega arith
 
-    within : i < length (lengthened table n)
-    within = rw lengthened-count lt
+    within : i < length (filledUp table n)
+    within = omega (arith, filled-count table n (h .fits))
 
     inside : 4 * i + 4 ≤ length bytes
     inside = omega (arith, h .long)
 
 pub entered-all : (bytes₀ table : List ℕ) (n : ℕ) (bytes : List ℕ) (i : ℕ) → Entered bytes₀ table n bytes i → n ≤ i →
-    bytes ≡ entryBytes (lengthened table n) ++ drop (4 * n) bytes₀
+    bytes ≡ entryBytes (filledUp table n) ++ drop (4 * n) bytes₀
 entered-all bytes₀ table n bytes i h le =
     let end : i ≡ n = omega (arith, h .upto) in
-    sym (take-append-drop (4 * i) bytes) ∙ rw (h .done, h .rest, end, take-all n (lengthened table n) (rw lengthened-count (omega arith)))
+    sym (take-append-drop (4 * i) bytes) ∙ rw (h .done, h .rest, end, take-all n (filledUp table n) (omega (arith, filled-count table n (h .fits))))

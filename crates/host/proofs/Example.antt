@@ -1,9 +1,10 @@
 -- Not vacuous: calls of `ldfs_solve` on sheet A, two of them refused 1, end settled at 500.
-use Prim.Native.Nat.{ℕ}
+use Prim.Native.Nat.{ℕ, _+_, _-_, _*_}
 use mathlib.Core.Path.{_≡_, refl}
 use mathlib.Core.List.{List, [], _∷_, map}
 use lib.ListN.{replicate}
 use Rattle.model.proofs.Computing.{computing}
+use Rattle.model.specs.Limits.{maxStates}
 use Rattle.model.specs.Report.{largest}
 use Rattle.model.specs.Calls.{Call}
 use Rattle.model.specs.Demands.{Demand3}
@@ -20,20 +21,26 @@ seen s t budget r = hostCall budget (hostNumber s t budget r) (hostSheet s t bud
 abbrev called : List ℕ → ℕ → ℕ → ℕ → Call
 called s table budget result = seen s (replicate table 7) budget (replicate result 9)
 
+-- the fewest bytes of a table
+abbrev enough : ℕ
+enough = 4 * maxStates
+
 -- budget 2, then a table that is too short, then a result that is too short, then the largest budget
 abbrev stopped : List ℕ
-stopped = hostSheet sheetA (replicate 4099 7) 2 (replicate 30 9)
+stopped = hostSheet sheetA (replicate (enough + 3) 7) 2 (replicate 30 9)
 
 abbrev pub callsA : List Call
-callsA = called sheetA 4099 2 30 ∷ called stopped 4095 2 30 ∷ called stopped 4096 2 23 ∷ called stopped 4096 largest 24 ∷ []
+callsA =
+    called sheetA (enough + 3) 2 30 ∷ called stopped (enough - 1) 2 30
+    ∷ called stopped enough 2 23 ∷ called stopped enough largest 24 ∷ []
 
 pub hosted-A : HostedAll sheetA callsA
 unfolding computing hostSheet
 hosted-A =
-    one (replicate 4099 7) 2 (replicate 30 9) (refl, (refl, (refl, refl)))
-    (one (replicate 4095 7) 2 (replicate 30 9) (refl, (refl, (refl, refl)))
-    (one (replicate 4096 7) 2 (replicate 23 9) (refl, (refl, (refl, refl)))
-    (one (replicate 4096 7) largest (replicate 24 9) (refl, (refl, (refl, refl))) none)))
+    one (replicate (enough + 3) 7) 2 (replicate 30 9) (refl, (refl, (refl, refl)))
+    (one (replicate (enough - 1) 7) 2 (replicate 30 9) (refl, (refl, (refl, refl)))
+    (one (replicate enough 7) 2 (replicate 23 9) (refl, (refl, (refl, refl)))
+    (one (replicate enough 7) largest (replicate 24 9) (refl, (refl, (refl, refl))) none)))
 
 -- what they answer, as the bytes report it
 pub answers-A : map (λ (c : Call). c .number ∷ c .price ∷ c .passes ∷ c .raises ∷ []) callsA ≡

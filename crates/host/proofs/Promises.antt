@@ -11,14 +11,14 @@ use Rattle.model.specs.Format.{Bytes}
 use Rattle.model.specs.Read.{problemOf, cellsOf}
 use Rattle.model.specs.Optimal.{gaps}
 use Rattle.model.specs.Tests.{fork}
-use Rattle.model.specs.Limits.{ceiling}
+use Rattle.model.specs.Limits.{ceiling, manyRaises}
 use Rattle.model.specs.Report.{answerTo, bytesAfter}
-use Rattle.model.specs.Calls.{Call, callOn, Calls, none as no-call, left, budgetsIn}
+use Rattle.model.specs.Calls.{Call, callOn, Calls, none as no-call, left, raisesIn, budgetsIn}
 use Rattle.model.specs.Demands.{Accepted, startCell, Demand1, Demand2, Demand3}
 use Rattle.layout.proofs.Bytes.{four}
 use Rattle.theory.proofs.Called.{budget-given, call-refused, made-call}
 use Rattle.theory.proofs.Promises.{raises-small, still-a-sheet}
-use Rattle.theory.proofs.Demands.{demand1, demand2, demand3, work-ends, price-small}
+use Rattle.theory.proofs.Demands.{demand1, demand2, demand3, all-raises-few, work-ends, price-small}
 use Rattle.host.specs.Host.{le32, le64, entries, room, hostNumber, hostSheet, hostResult}
 use Rattle.host.specs.HostCalls.{readLe32, readLe64, reported, hostCall, hostEntries, Hosted, HostedAll, none, one}
 use Rattle.host.proofs.Hosted.{refused-short}
@@ -89,6 +89,10 @@ host-calls acc (one {s} {s′} {t′} {r′} {k} {more} t budget r m rest) =
 
 pub host-keeps : {s : List ℕ} {calls : List Call} → Accepted s → HostedAll s calls → Demand3 s calls
 host-keeps acc made = demand3 acc (host-calls acc made)
+
+-- S7.3: they make few raises
+pub host-raises-few : {s : List ℕ} {calls : List Call} → Accepted s → HostedAll s calls → raisesIn calls < manyRaises
+host-raises-few acc made = all-raises-few acc (host-calls acc made)
 
 -- S8.11: budgets above the gaps at the outset leave the start settled
 pub host-ends : {s : List ℕ} {calls : List Call} → Accepted s → HostedAll s calls →

@@ -1,25 +1,35 @@
 // The one function that a terminal's host program calls.
 ghost use mathlib.Core.Path.{_≡_};
 ghost use mathlib.Core.List.{_++_};
-ghost use Prim.Native.Nat.{_+_, _*_, _%_, _<_, _≤_};
-ghost use lib.ListN.{length, getD, drop};
+ghost use mathlib.Core.Bool.{true};
+ghost use Prim.Native.Nat.{_+_, _*_, _<_, _≤_};
+ghost use lib.ListN.{length, drop};
 ghost use Rattle.model.specs.Limits.{maxStates};
+ghost use Rattle.model.specs.Format.{be16, statesIn};
 ghost use Rattle.model.specs.Report.{number};
 ghost use Rattle.layout.specs.Placed.{placed};
-ghost use Rattle.host.specs.Host.{le32, le64, resultBytes, entries, entryBytes, lengthened};
+ghost use Rattle.host.specs.Host.{le32, le64, resultBytes, entries, entryBytes, filledUp};
 ghost use Rattle.host.specs.Host.{hostNumber, hostSheet, hostTable, hostResult};
+ghost use Rattle.host.specs.Served.{fewStates, Serves, Worked};
 use ldfs::refusal;
 use ldfs::solve_zeroed;
 use model::Answer;
 use model::MAX_STATES;
 use model::Outcome;
 use model::ROOM;
+use model::format;
 use sheet::convert::long_to_byte;
+use sheet::convert::word_to_index;
+use sheet::convert::word_to_long;
+use sheet::numbers::get16;
 
 // The fewest bytes of a table (S9.2), and of a result (S9.5): price, passes and raises, eight bytes each.
 const TABLE_BYTES: usize = 4 * MAX_STATES;
 
 const RESULT_BYTES: usize = 24;
+
+// A sheet of no more states than this has few (`fewStates`): it is worked on a short index table, which is cleared sooner.
+const FEW_STATES: usize = 256;
 
 // Four bytes of a slice become a number, least significant first.
 fn put32(s: &mut [u8], at: usize, x: u64)
@@ -52,30 +62,56 @@ fn put_answer(result: &mut [u8], a: Answer)
     put64(result, 16, a.raises);
 }
 
-// Entry i of the index table, 0 past its end.
-fn entry(table: &[u32], i: usize) -> u64
-    ensures { λ r. ⌜ (r ≡ getD (now (table .entry)) i 0) × (r < 4294967296) ⌝ }
-{
-    if i < table.len() { table[i] as u64 } else { 0 }
-}
-
 // The entries of the index table as bytes, as far as whole entries go: the table's own, and then zeros. The two loops compile to a copy and
-// a fill.
-fn put_table(bytes: &mut [u8], table: &[u32; MAX_STATES])
-    requires { ⌜ 4 * maxStates ≤ length (now bytes) ⌝ }
-    ensures { λ _. ⌜ now (bytes .exit) ≡ entryBytes (lengthened (now (table .entry)) (entries (now (bytes .entry)))) ++
+// a fill, and each entry is written once.
+fn put_table(bytes: &mut [u8], table: &[u32])
+    requires { ⌜ length (now table) ≤ entries (now bytes) ⌝ }
+    ensures { λ _. ⌜ now (bytes .exit) ≡ entryBytes (filledUp (now (table .entry)) (entries (now (bytes .entry)))) ++
         drop (4 * entries (now (bytes .entry))) (now (bytes .entry)) ⌝ }
 {
     let n = bytes.len() / 4;
     let mut i: usize = 0;
-    while i < MAX_STATES {
-        put32(bytes, 4 * i, entry(table, i));
+    while i < table.len() {
+        put32(bytes, 4 * i, word_to_long(table[i]));
         i += 1;
     }
     while i < n {
-        put32(bytes, 4 * i, entry(table, i));
+        put32(bytes, 4 * i, 0);
         i += 1;
     }
+}
+
+// Has the sheet few states, by its head?
+fn has_few(sheet: &[u8]) -> bool
+    ensures { λ r. ⌜ (r ≡ true → be16 (now (sheet .entry)) statesIn ≤ fewStates) ⌝ }
+{
+    if sheet.len() < format::HEAD_SIZE {
+        return false;
+    }
+    word_to_index(get16(sheet, format::STATES_IN)) <= FEW_STATES
+}
+
+// Works a sheet on an index table of its own, and writes the host's table from it.
+fn solve_on(sheet: &mut [u8], table: &mut [u8], index: &mut [u32], budget: u64) -> Answer
+    requires { ⌜ Serves (now index) (now sheet) (now table) ⌝ }
+    ensures { λ r. ⌜ Worked (now (sheet .entry)) (now (table .entry)) budget r (now (sheet .exit)) (now (table .exit)) ⌝ }
+{
+    let a = solve_zeroed(sheet, index, budget);
+    put_table(table, index);
+    a
+}
+
+// Works a sheet on an index table as long as it needs, and writes the host's table.
+fn solve_bytes(sheet: &mut [u8], table: &mut [u8], budget: u64) -> Answer
+    requires { ⌜ maxStates ≤ entries (now table) ⌝ }
+    ensures { λ r. ⌜ Worked (now (sheet .entry)) (now (table .entry)) budget r (now (sheet .exit)) (now (table .exit)) ⌝ }
+{
+    if has_few(sheet) {
+        let mut index = [0u32; FEW_STATES];
+        return solve_on(sheet, table, &mut index, budget);
+    }
+    let mut index = [0u32; MAX_STATES];
+    solve_on(sheet, table, &mut index, budget)
 }
 
 // The number of an outcome.
@@ -111,9 +147,7 @@ pub extern "C" fn ldfs_solve(
         put_answer(result, refusal(ROOM, budget));
         return ROOM;
     }
-    let mut index = [0u32; MAX_STATES];
-    let a = solve_zeroed(sheet, &mut index, budget);
-    put_table(table, &index);
+    let a = solve_bytes(sheet, table, budget);
     put_answer(result, a);
     let o = a.outcome;
     outcome_number(o)

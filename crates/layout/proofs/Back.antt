@@ -12,7 +12,7 @@ use Rattle.model.specs.Tests.{also, all}
 use Rattle.model.specs.Problem.{Kind, worst, whole, Action, Node, terminal, decision, Problem, Cell, cell, states, cellOf}
 use Rattle.model.specs.Format.{be16, be32, actionTag, actionLength, successorsBytes, actionBytes, actionsBytes, nodeBytes}
 use Rattle.model.specs.Format.{nodesBytes, kindByte, write}
-use Rattle.model.specs.Limits.{maxActions}
+use Rattle.model.specs.Limits.{maxStates, maxActions}
 use Rattle.model.specs.Read.{actionFits, successorsRead, actionRead, actionsGood, actionsRead, actionsLong}
 use Rattle.model.specs.Read.{pastActions, terminalFits, headerFits, decisionFits, nodesGood, nodesRead, cellsRead, kindOf}
 use Rattle.model.specs.Read.{problemOf, cellsOf}
@@ -121,7 +121,7 @@ module _ (p : Problem) (cells : List Cell) (h : Shaped p cells) where
   unfolding cellsOf write be16
   cells-back = rw (two (states p)) (body .2)
 
-  pub head-good : question3 (write p cells) ≡ true
+  pub head-good : question3 maxStates (write p cells) ≡ true
   unfolding question3 write be16
   head-good = true-all _ (refl, (refl, omega (arith, le-leb, lt-ltb, kind-small (p .kind))))
 

@@ -208,14 +208,14 @@ nodes-written (suc n) r byte good = by-tag (eqb (tag r) terminalTag) refl (nodes
         rw e (written-cons (decision-same r byte (f .0)) (decision-shaped r byte (f .0)) tt others)
 
 -- question 3, in numbers
-pub head-says : (bs : List ℕ) → question3 bs ≡ true →
+pub head-says : {limit : ℕ} (bs : List ℕ) → question3 limit bs ≡ true →
     (tag bs ≡ headTag) × (be16 bs 1 ≡ headLength) × (8 ≤ length bs) × (getD bs 3 0 ≤ 1) ×
-    (1 ≤ be16 bs 4) × (be16 bs 4 ≤ maxStates) ×
+    (1 ≤ be16 bs 4) × (be16 bs 4 ≤ limit) ×
     (be16 bs 6 < be16 bs 4)
 unfolding question3
 head-says bs head = omega (arith, eqb-true, leb-true, ltb-true, all-true _ head)
 
-module _ (bs : List ℕ) (byte : Bytes bs) (head : question3 bs ≡ true) (body : question4 bs ≡ true) where
+module _ (bs : List ℕ) (byte : Bytes bs) (head : question3 maxStates bs ≡ true) (body : question4 bs ≡ true) where
   body-written : Written (be16 bs 4) (drop 8 bs) (problemOf bs .nodes) (cellsOf bs)
   unfolding question4 problemOf cellsOf
   body-written = nodes-written (be16 bs 4) (drop 8 bs) (bytes-drop 8 bs byte) body

@@ -9,12 +9,13 @@ use Rattle.model.specs.Problem.{solved}
 use Rattle.model.specs.Format.{Bytes}
 use Rattle.model.specs.Read.{problemOf, cellsOf}
 use Rattle.model.specs.Optimal.{gaps}
-use Rattle.model.specs.Questions.{checkQuestions, sheetRefusal}
-use Rattle.model.specs.Calls.{Call, callOf, callOn, Calls, none as no-call, left, budgetsIn}
+use Rattle.model.specs.Questions.{checkQuestions, sheetRefusal, sheetRefusalUnder}
+use Rattle.model.specs.Limits.{manyRaises}
+use Rattle.model.specs.Calls.{Call, callOf, callOn, Calls, none as no-call, left, raisesIn, budgetsIn}
 use Rattle.model.specs.Demands.{Accepted, startCell, Demand1, Demand2, Demand3}
 use Rattle.theory.proofs.Refusals.{first-is, none-is}
 use Rattle.theory.proofs.Called.{made-call}
-use Rattle.theory.proofs.Demands.{demand1, demand2, demand3, work-ends}
+use Rattle.theory.proofs.Demands.{demand1, demand2, demand3, all-raises-few, work-ends}
 use Rattle.questions.specs.declared.Verdict.{Verdict}
 use Rattle.questions.specs.Verdicts.{verdictNumber, verdict, VerdictSays, accepted, refused}
 use Rattle.questions.proofs.Asking.{verdict-number}
@@ -23,7 +24,7 @@ use Rattle.ldfs.specs.Made.{Solved, SolvedAll, none, one}
 -- The verdict of `check`, by what its contract ensures, in the numbers of S4.
 pub check-answers : (s : List ℕ) (entries : ℕ) {v : Verdict} → v ≡ verdict (sheetRefusal s entries) →
     VerdictSays s entries (verdictNumber v)
-unfolding sheetRefusal
+unfolding sheetRefusalUnder
 check-answers s entries e = rw (e, verdict-number) (go (sheetRefusal s entries) refl)
   where
     go : (n : ℕ) → sheetRefusal s entries ≡ n → VerdictSays s entries n
@@ -51,6 +52,10 @@ solved-calls (one t budget m rest) = made-call (length t) budget (solved-call _ 
 
 pub solve-keeps : {s : List ℕ} {calls : List Call} → Accepted s → SolvedAll s calls → Demand3 s calls
 solve-keeps acc made = demand3 acc (solved-calls made)
+
+-- S7.3: they make few raises
+pub solve-raises-few : {s : List ℕ} {calls : List Call} → Accepted s → SolvedAll s calls → raisesIn calls < manyRaises
+solve-raises-few acc made = all-raises-few acc (solved-calls made)
 
 -- S8.11: budgets above the gaps at the outset leave the start settled
 pub solve-ends : {s : List ℕ} {calls : List Call} → Accepted s → SolvedAll s calls →

@@ -2,10 +2,9 @@
 use Prim.Native.Nat.{ℕ, zero, suc, _<_, _≤_}
 use mathlib.Core.Path.{_≡_, refl, sym, ap, _∙_}
 use mathlib.Core.Bool.{Bool, true, false}
-use mathlib.Core.Logic.{_⊎_}
 use mathlib.Core.List.{List, [], _∷_, _++_}
 use native.Mathlib.Omega.{arith}
-use borrow.Author.Tests.{lt-ltb, le-ltb, eq-eqb, lt-leb, le-leb, leb-true}
+use borrow.Author.Tests.{lt-ltb, le-ltb, lt-leb, le-leb}
 use lib.ListN.{length, replicate, length-append, length-drop, length-replicate}
 use Rattle.model.specs.declared.Answer.{Answer}
 use Rattle.model.specs.declared.Outcome.{Outcome}
@@ -15,24 +14,25 @@ use Rattle.model.specs.Problem.{Cell, states, cellOf, valueOf, solved}
 use Rattle.model.specs.Format.{Bytes, be16, offset, write}
 use Rattle.model.specs.Read.{problemOf, cellsOf}
 use Rattle.model.specs.Limits.{ceiling, maxStates}
-use Rattle.model.specs.Questions.{question1, question9, Question, question, sheetQuestions, checkQuestions, firstNo, sheetRefusal}
-use Rattle.model.proofs.QuestionLaws.{AllYes, none-no, all-yes, first-from}
-use Rattle.model.specs.Questions.{refusal, accepted}
+use Rattle.model.specs.Questions.{question1, question9, Question, question, checkQuestionsUnder, firstNo}
+use Rattle.model.specs.Questions.{sheetRefusalUnder, refusalUnder}
+use Rattle.model.proofs.QuestionLaws.{AllYes, none-no}
+use Rattle.model.proofs.LimitLaws.{head-within, sheet-raised, yes-accepted, refusals-left, room-yes}
 use Rattle.model.specs.Ldfs.{Search, searchOf, work}
-use Rattle.model.specs.Report.{outcomeOf, cellsAfter, raisesOf, refused, onRefusal, answerTo, bytesAfter, refusedTable, tableAfter}
-use Rattle.layout.proofs.Index.{offsets-count}
+use Rattle.model.specs.Report.{outcomeOf, cellsAfter, raisesOf, refused, onRefusal, answerUnder, bytesUnder, refusedTable, tableUnder}
+use Rattle.layout.proofs.Index.{states-read, offsets-count}
 use Rattle.theory.proofs.Accepted.{asked-problem, asked-cells}
-use Rattle.theory.proofs.Sheets.{Stands, accepted-stands, refusals-left}
+use Rattle.theory.proofs.Sheets.{Stands, accepted-stands}
 use Rattle.sheet.specs.Sheet.{Within}
 use Rattle.sheet.proofs.Laws.{indexed, nine-room}
 use Rattle.questions.specs.declared.Verdict.the-variants.{Accepted, Refused as RefusedBy}
 use Rattle.questions.specs.Verdicts.{verdict}
-use Rattle.questions.specs.Put.{indexedBefore, askedTable}
-use Rattle.questions.proofs.Asking.{cleared, cleared-zeros, cleared-length, from-cleared}
+use Rattle.questions.specs.Put.{indexedBefore, servedBy, servedRefusal, askedTable}
+use Rattle.questions.proofs.Asking.{cleared, cleared-zeros, cleared-length, from-cleared, serves-all}
 use Rattle.search.specs.declared.visits.Way.{Way}
 use Rattle.search.specs.declared.visits.Way.the-variants.{Success, Failure, Halt}
 use Rattle.search.specs.declared.passes.Passes.{Passes as PassesMade}
-use Rattle.ldfs.specs.Made.{Finished, filledTable, Filled, Solved}
+use Rattle.ldfs.specs.Made.{Finished, filledTable, Filled, SolvedUnder, Solved}
 use Rattle.search.specs.Did.{search, visitOf, Workable, DidPasses}
 
 -- the start's number, and the head's bytes, of a sheet
@@ -100,50 +100,56 @@ refused-more (ask ∷ asked) more k h = go (ask .answer tt) refl (refused-more a
     go false e ih = rw e (rw e at h)
 
 module _ (s t : List ℕ) (budget : ℕ) where
+  -- the limit that the table serves, and the refusal under it
+  abbrev limit : ℕ
+  limit = servedBy (length t)
+
+  abbrev refusal-served : ℕ
+  refusal-served = refusalUnder limit s (length t) budget
+
   -- by the refusal of the call
-  refused-call : (k : ℕ) → refusal s (length t) budget ≡ suc k → (r : Answer) → r ≡ refused budget (suc k) →
+  refused-call : (k : ℕ) → refusal-served ≡ suc k → (r : Answer) → r ≡ refused budget (suc k) →
       (t′ : List ℕ) → t′ ≡ refusedTable t (suc k) → Filled s t budget r s t′
-  unfolding answerTo bytesAfter filledTable onRefusal
+  unfolding answerUnder bytesUnder filledTable onRefusal
   refused-call k e r a t′ last = rw e (a, (refl, last))
 
-  worked-call : refusal s (length t) budget ≡ 0 → (s′ t′ : List ℕ) (r : Answer) → Finished s s′ r budget →
+  worked-call : refusal-served ≡ 0 → (s′ t′ : List ℕ) (r : Answer) → Finished s s′ r budget →
       t′ ≡ indexedBefore s t → Filled s t budget r s′ t′
-  unfolding answerTo bytesAfter filledTable onRefusal
+  unfolding answerUnder bytesUnder filledTable onRefusal
   worked-call e s′ t′ r f last = rw e (f .said, (f .bytes, last))
 
-  -- refused by questions 1 to 8
-  pub refused-by : (n : ℕ) → RefusedBy n ≡ verdict (sheetRefusal s (length t)) → (r : Answer) → r ≡ refused budget n →
+  -- refused by questions 2 to 8
+  pub refused-by : (n : ℕ) → RefusedBy n ≡ verdict (servedRefusal s t) → (r : Answer) → r ≡ refused budget n →
       (t′ : List ℕ) → t′ ≡ askedTable s t → Filled s t budget r s t′
-  unfolding verdict askedTable sheetRefusal refusal onRefusal
-  refused-by n e r a t′ last = go (sheetRefusal s (length t)) refl e
+  unfolding verdict askedTable sheetRefusalUnder refusalUnder onRefusal
+  refused-by n e r a t′ last = go (servedRefusal s t) refl e
     where
-      go : (k : ℕ) → sheetRefusal s (length t) ≡ k → RefusedBy n ≡ verdict k → Filled s t budget r s t′
+      go : (k : ℕ) → servedRefusal s t ≡ k → RefusedBy n ≡ verdict k → Filled s t budget r s t′
       go zero z v = let f : _≡_ {A = ℕ} 0 1 = cc in absurd (omega arith)
       go (suc k) z v =
           let same : n ≡ suc k = cc in
-          let no = refused-more (checkQuestions s (length t)) (question 9 (λ _. question9 budget) ∷ []) k z in
+          let no = refused-more (checkQuestionsUnder limit s (length t)) (question 9 (λ _. question9 budget) ∷ []) k z in
           refused-call k no r (a ∙ ap (refused budget) same) t′ (last ∙ rw z)
 
-  -- accepted by questions 1 to 8
-  module _ (e : Accepted ≡ verdict (sheetRefusal s (length t))) (byte : Bytes s) where
-    none : sheetRefusal s (length t) ≡ 0
+  -- accepted by questions 2 to 8
+  module _ (e : Accepted ≡ verdict (servedRefusal s t)) (byte : Bytes s) where
+    none : servedRefusal s t ≡ 0
     unfolding verdict
-    none = go (sheetRefusal s (length t)) e
+    none = go (servedRefusal s t) e
       where
         go : (k : ℕ) → Accepted ≡ verdict k → k ≡ 0
         go zero v = refl
         go (suc k) v = let f : _≡_ {A = ℕ} 0 1 = cc in absurd (omega arith)
 
-    yes : AllYes (checkQuestions s (length t))
-    unfolding sheetRefusal
-    yes = none-no (checkQuestions s (length t)) refl none
+    yes : AllYes (checkQuestionsUnder limit s (length t))
+    unfolding sheetRefusalUnder
+    yes = none-no (checkQuestionsUnder limit s (length t)) refl none
 
     stands : Stands s (problemOf s) (cellsOf s)
-    unfolding accepted
-    stands = accepted-stands s byte (eq-eqb _ _ (all-yes (sheetQuestions s) (yes .1)))
+    stands = accepted-stands s byte (yes-accepted maxStates s (sheet-raised (omega arith) s (yes .1)))
 
-    by-budget : refusal s (length t) budget ≡ fork (question9 budget) (λ _. 0) (λ _. 9)
-    by-budget = refusals-left s (problemOf s) (cellsOf s) stands (length t) budget ∙ rw (yes .0)
+    by-budget : refusal-served ≡ fork (question9 budget) (λ _. 0) (λ _. 9)
+    by-budget = refusals-left limit s (yes .1) (length t) budget ∙ rw (yes .0)
 
     module _ (t′ : List ℕ) (asked : t′ ≡ askedTable s t) where
       filled : t′ ≡ indexedBefore s t
@@ -152,8 +158,7 @@ module _ (s t : List ℕ) (budget : ℕ) where
 
       -- the table is long enough, and as long as it was
       enough : states (problemOf s) ≤ length t
-      unfolding question1
-      enough = omega (arith, leb-true maxStates (length t) (yes .0), stands .asked .shaped .most)
+      enough = omega (arith, states-read s, head-within limit s (yes .1 .1 .0))
 
       long : length t′ ≡ length t
       long = rw (filled, length-append, offsets-count 8 (problemOf s .nodes), length-drop) (omega (arith, enough))
@@ -179,26 +184,29 @@ module _ (s t : List ℕ) (budget : ℕ) where
 -- From a table that was cleared to any table.
 module _ (s t : List ℕ) (budget : ℕ) where
   pub refused-short : length t < maxStates → (r : Answer) → r ≡ refused budget 1 → Solved s t budget r s t
-  unfolding answerTo bytesAfter tableAfter refusal firstNo question1 onRefusal refusedTable
+  unfolding answerUnder bytesUnder tableUnder refusalUnder firstNo question1 onRefusal refusedTable
   refused-short h r a = rw (lt-leb maxStates (length t) h) (a, (refl, refl))
 
-  module _ (ge : maxStates ≤ length t) where
-    -- question 1 does not refuse
-    number : (refusal s (length t) budget ≡ 0) ⊎ (2 ≤ refusal s (length t) budget)
-    unfolding refusal firstNo question1
-    number = rw (le-leb maxStates (length t) ge) (first-from 2 (sheetQuestions s ++ (question 9 (λ _. question9 budget) ∷ [])) refl)
+  from-zeros : {r : Answer} {s′ t′ : List ℕ} → Filled s (cleared t) budget r s′ t′ →
+      SolvedUnder (servedBy (length t)) s t budget r s′ t′
+  unfolding filledTable tableUnder
+  from-zeros f =
+      let long = cleared-length t in
+      let limit = servedBy (length t) in
+      let number = room-yes limit s (length t) budget (omega arith) in
+      let table = rw long at (f .1 .1) in
+      (rw long at (f .0), (rw long at (f .1 .0), table ∙ from-cleared s t (refusalUnder limit s (length t) budget) number))
 
-    pub from-zeros : {r : Answer} {s′ t′ : List ℕ} → Filled s (cleared t) budget r s′ t′ → Solved s t budget r s′ t′
-    unfolding filledTable tableAfter
-    from-zeros f =
-        let long = cleared-length t in
-        let table = rw long at (f .1 .1) in
-        (rw long at (f .0), (rw long at (f .1 .0), table ∙ from-cleared s t (refusal s (length t) budget) number))
+  -- a table of as many entries as any sheet may have states serves every sheet
+  pub all-from-zeros : maxStates ≤ length t → {r : Answer} {s′ t′ : List ℕ} → Filled s (cleared t) budget r s′ t′ →
+      Solved s t budget r s′ t′
+  all-from-zeros ge f = rw (serves-all (length t) ge) at (from-zeros f)
 
--- a table of zeros is one that was cleared
-pub zeros-solved : (s : List ℕ) (budget m : ℕ) → maxStates ≤ m → {r : Answer} {s′ t′ : List ℕ} →
+-- a table of zeros is one that was cleared, and serves as many states as it has entries
+pub zeros-solved : (s : List ℕ) (budget m : ℕ) → m ≤ maxStates → {r : Answer} {s′ t′ : List ℕ} →
     Filled s (replicate m 0) budget r s′ t′ →
-    Solved s (replicate m 0) budget r s′ t′
-zeros-solved s budget m ge f =
+    SolvedUnder m s (replicate m 0) budget r s′ t′
+zeros-solved s budget m few f =
     let same : cleared (replicate m 0) ≡ replicate m 0 = cleared-zeros (replicate m 0) ∙ rw length-replicate in
-    from-zeros s (replicate m 0) budget (rw length-replicate ge) (rw same f)
+    let limit : servedBy (length {A = ℕ} (replicate m 0)) ≡ m = rw (length-replicate {A = ℕ} m 0) (omega arith) in
+    rw limit at (from-zeros s (replicate m 0) budget (rw (sym same) at f))

@@ -6,7 +6,7 @@ ghost use Rattle.model.specs.Read.{problemOf};
 ghost use Rattle.model.specs.Report.{outcomeOf, refused, answerTo, bytesAfter, tableAfter};
 ghost use Rattle.sheet.specs.Sheet.{Within};
 ghost use Rattle.search.specs.Did.{Workable};
-ghost use Rattle.ldfs.specs.Made.{Finished, filledTable};
+ghost use Rattle.ldfs.specs.Made.{Finished, servedAnswer, servedBytes, filledTable};
 use model::Answer;
 use model::BUDGET;
 use model::LONG_CEILING;
@@ -70,11 +70,12 @@ fn finish(sheet: &mut [u8], table: &[u32], budget: u64) -> Answer
     }
 }
 
-// Works any bytes as a sheet, with any table and any budget, as `solve` does, but the entries past an accepted sheet's last state stay as
-// they are: for a table that is known to be zero it is `solve` without the clearing.
+// Works any bytes as a sheet, with any table and any budget, as `solve` does under the limit of states that the table serves, but the
+// entries past an accepted sheet's last state stay as they are: for a table that is known to be zero it is `solve` without the clearing,
+// and a short one does for a sheet of few states.
 pub fn solve_zeroed(sheet: &mut [u8], table: &mut [u32], budget: u64) -> Answer
-    ensures answer { λ r. ⌜ r ≡ answerTo (now (sheet .entry)) (length (now (table .entry))) budget ⌝ }
-    ensures sheet { λ _. ⌜ now (sheet .exit) ≡ bytesAfter (now (sheet .entry)) (length (now (table .entry))) budget ⌝ }
+    ensures answer { λ r. ⌜ r ≡ servedAnswer (now (sheet .entry)) (now (table .entry)) budget ⌝ }
+    ensures sheet { λ _. ⌜ now (sheet .exit) ≡ servedBytes (now (sheet .entry)) (now (table .entry)) budget ⌝ }
     ensures table { λ _. ⌜ now (table .exit) ≡ filledTable (now (sheet .entry)) (now (table .entry)) budget ⌝ }
 {
     let v = ask(sheet, table);

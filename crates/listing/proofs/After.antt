@@ -11,7 +11,7 @@ use Rattle.model.specs.declared.Outcome.the-variants.{Settled}
 use Rattle.model.specs.Format.{Bytes}
 use Rattle.model.specs.Read.{problemOf, cellsOf}
 use Rattle.model.specs.Questions.{refusal}
-use Rattle.model.specs.Report.{largest, onRefusal, answerTo, bytesAfter, indexTable, tableAfter}
+use Rattle.model.specs.Report.{largest, onRefusal, answerTo, bytesAfter, indexTable, tableAfter, tableUnder}
 use Rattle.sheet.proofs.Laws.{own, indexed}
 use Rattle.theory.proofs.Accepted.{asked-problem, asked-cells}
 use Rattle.theory.proofs.Sheets.{Stands, accepted-stands, stands-problem, stands-cells, unrefused}
@@ -26,7 +26,7 @@ use Rattle.listing.proofs.Writing.{wrote-behind}
 -- a sheet and its index after a call that is not refused
 module _ (s t : List ℕ) (budget : ℕ) (bytes : Bytes s) where
   unrefused-worked : refusal s (length t) budget ≡ 0 → Listable (bytesAfter s (length t) budget) (tableAfter s t budget)
-  unfolding tableAfter onRefusal indexTable
+  unfolding tableUnder onRefusal indexTable
   unrefused-worked e = record {
     sheet = own (indexed _ (h .is) (h .asked .shaped) filled);
     formed = rw (stands-problem _ _ _ h) (asked-problem _ _ (h .asked));

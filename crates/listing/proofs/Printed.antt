@@ -5,12 +5,13 @@ use mathlib.Core.Path.{_≡_, refl}
 use mathlib.Core.List.{List, [], _++_}
 use Rattle.model.specs.declared.Outcome.the-variants.{Over, Stopped}
 use Rattle.model.proofs.Computing.{computing}
+use Rattle.model.specs.Limits.{maxStates}
 use Rattle.model.specs.Report.{largest}
 use Rattle.model.specs.Rows.{sheetA, sheetC}
 use Rattle.listing.specs.Text.{ascii, digits}
 use Rattle.listing.specs.Listing.{lineOne, listed, reachedBelow, stateLines, listing}
 
-pub printed-A : listing sheetA 1024 ≡ ascii "settled 500 3 3\nstage 0 check 1 value 500 by 3\nstage 3 end value 0\n"
+pub printed-A : listing sheetA maxStates ≡ ascii "settled 500 3 3\nstage 0 check 1 value 500 by 3\nstage 3 end value 0\n"
 unfolding computing digits listed reachedBelow stateLines listing
 printed-A = refl
 
@@ -18,23 +19,23 @@ printed-A = refl
 abbrev endingsC : List ℕ
 endingsC = ascii "stage 1 end value 10\nstage 2 end value 40\nstage 3 end value 40\nstage 4 end value 20\n"
 
-pub printed-C : listing (sheetC 0 10 40 40 20) 1024 ≡ ascii "settled 50 4 7\nstage 0 check 0 value 50 by 2\n" ++ endingsC
+pub printed-C : listing (sheetC 0 10 40 40 20) maxStates ≡ ascii "settled 50 4 7\nstage 0 check 0 value 50 by 2\n" ++ endingsC
 unfolding computing digits listed reachedBelow stateLines listing
 printed-C = refl
 
-pub printed-C-whole : listing (sheetC 1 10 40 40 20) 1024 ≡ ascii "settled 120 6 9\nstage 0 check 0 value 120 by 2\n" ++ endingsC
+pub printed-C-whole : listing (sheetC 1 10 40 40 20) maxStates ≡ ascii "settled 120 6 9\nstage 0 check 0 value 120 by 2\n" ++ endingsC
 unfolding computing digits listed reachedBelow stateLines listing
 printed-C-whole = refl
 
 -- of values that are all 0, the first
 pub printed-C-free :
-    listing (sheetC 0 0 0 0 0) 1024 ≡
+    listing (sheetC 0 0 0 0 0) maxStates ≡
     ascii "settled 10 2 1\nstage 0 check 0 value 10 by 1\n"
     ++ ascii "stage 1 end value 0\nstage 2 end value 0\nstage 3 end value 0\nstage 4 end value 0\n"
 unfolding computing digits listed reachedBelow stateLines listing
 printed-C-free = refl
 
-pub printed-refused : listing [] 1024 ≡ ascii "refused 2\n"
+pub printed-refused : listing [] maxStates ≡ ascii "refused 2\n"
 unfolding computing digits listing
 printed-refused = refl
 

@@ -10,10 +10,10 @@ use Rattle.model.specs.QValue.{join, joined, dearestFrom, dearest, least
 use Rattle.model.specs.Questions.{question1, question2, question3, question4, costsInRange, chosenInRange, cellInRange, question5}
 use Rattle.model.specs.Questions.{ascending, successorsInOrder, question6}
 use Rattle.model.specs.Questions.{valueUnder, question7, allSolved, passedBy, markEarned, question8, question9, firstNo}
-use Rattle.model.specs.Questions.{sheetRefusal, refusal, accepted}
+use Rattle.model.specs.Questions.{sheetRefusalUnder, refusalUnder, acceptedUnder}
 use Rattle.model.specs.Ldfs.{onTest, onVisit, update, ifDear, visitAll, tryOne, tryAll, visitOpen, visit, onPass, passes, work}
-use Rattle.model.specs.Report.{outcomeOf, onRefusal, answerTo, report, bytesAfter, indexTable, refusedTable, checkedTable}
-use Rattle.model.specs.Report.{tableAfter}
+use Rattle.model.specs.Report.{outcomeOf, onRefusal, answerUnder, report, bytesUnder, indexTable, refusedTable, checkedTable}
+use Rattle.model.specs.Report.{tableUnder}
 
 -- fields written, and their offsets
 unfoldable computingBytes : Unit {0}
@@ -42,7 +42,7 @@ computingRanges = tt
 
 -- questions 7 to 9, and refusals
 unfoldable computingMarks : Unit {0}
-unfolding valueUnder question7 allSolved passedBy markEarned question8 question9 firstNo sheetRefusal refusal accepted
+unfolding valueUnder question7 allSolved passedBy markEarned question8 question9 firstNo sheetRefusalUnder refusalUnder acceptedUnder
 computingMarks = tt
 
 -- visits and passes
@@ -52,7 +52,7 @@ computingWork = tt
 
 -- the answer of a call, and what it leaves
 unfoldable computingCalls : Unit {0}
-unfolding outcomeOf onRefusal answerTo report bytesAfter indexTable refusedTable checkedTable tableAfter
+unfolding outcomeOf onRefusal answerUnder report bytesUnder indexTable refusedTable checkedTable tableUnder
 computingCalls = tt
 
 unfoldable pub computing : Unit {0}

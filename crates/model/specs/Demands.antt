@@ -1,18 +1,20 @@
 -- S8: the three demands, each a claim about calls as their caller sees them. The crate `theory` has the theorems; `ldfs` and `host` have
 -- them of the code.
-use Prim.Native.Nat.{ℕ, suc, _+_, _<_, _≤_}
+use Prim.Native.Nat.{ℕ, suc, _+_, _-_, _<_, _≤_}
 use mathlib.Core.Path.{_≡_}
 use mathlib.Core.Bool.{true, false}
 use mathlib.Core.Logic.{_⊎_}
 use mathlib.Core.List.{List, _∷_, _++_}
+use lib.ListN.{length, replicate}
 use Rattle.model.specs.Problem.{Problem, Cell, cellOf, valueOf, solved}
 use Rattle.model.specs.Format.{Bytes}
 use Rattle.model.specs.Read.{problemOf, cellsOf}
 use Rattle.model.specs.Limits.{ceiling}
 use Rattle.model.specs.QValue.{cut}
-use Rattle.model.specs.Questions.{questions, answerAt, First, accepted}
+use Rattle.model.specs.Questions.{questions, answerAt, First, accepted, acceptedUnder}
 use Rattle.model.specs.Optimal.{optimal, gaps}
 use Rattle.model.specs.Policy.{Policy, Closed, policyCost, written}
+use Rattle.model.specs.Report.{answerUnder, bytesUnder, tableUnder}
 use Rattle.model.specs.Calls.{Call, left, raisesIn}
 
 -- an accepted sheet, however far it has been worked: bytes that get a yes to every question but those on the table and the budget
@@ -97,3 +99,15 @@ pub record Demand3 (s : List ℕ) (calls : List Call) : Type 0 where
   -- S8.10: if the start is then settled below the ceiling, its plan is best
   pub best : solved (startCell s (left s calls)) ≡ true → startCell s (left s calls) .value < ceiling →
       Best (problemOf s) (cellsOf (left s calls))
+
+-- S8.12, of two limits of stages and a sheet s that the smaller one accepts: what the larger one keeps. The numbers of entries, and the
+-- tables, are those of a call under the smaller limit and of one under the larger.
+pub record Raised (small large : ℕ) (s : List ℕ) : Type 0 where
+  pub still-accepted : acceptedUnder large s ≡ true
+  pub same-answer : (entries entries′ budget : ℕ) → small ≤ entries → large ≤ entries′ →
+      answerUnder large s entries′ budget ≡ answerUnder small s entries budget
+  pub same-bytes : (entries entries′ budget : ℕ) → small ≤ entries → large ≤ entries′ →
+      bytesUnder large s entries′ budget ≡ bytesUnder small s entries budget
+  -- a table that is longer begins with what the shorter one holds, and has zeros behind it
+  pub same-table : (t t′ : List ℕ) (budget : ℕ) → small ≤ length t → large ≤ length t′ → length t ≤ length t′ →
+      tableUnder large s t′ budget ≡ tableUnder small s t budget ++ replicate (length t′ - length t) 0

@@ -1,9 +1,9 @@
 -- The limits of a sheet, one definition each. `src/lib.rt` has the same numbers for the code, and the proofs hold the two to each other.
-use Prim.Native.Nat.{ℕ}
+use Prim.Native.Nat.{ℕ, _^_}
 
 -- S4.1, S4.3: the most stages that a sheet has, and the fewest entries of its index table
 abbrev pub maxStates : ℕ
-maxStates = 1024
+maxStates = 4096
 
 -- S4.2: the fewest and the most bytes that a sheet has
 abbrev pub minBytes : ℕ
@@ -26,3 +26,7 @@ maxCost = 1000000
 -- S2.7: the ceiling, which a price or a least cost above it counts as
 unfoldable pub ceiling : ℕ
 ceiling = 1000000000
+
+-- S7.3: all calls on a sheet together make fewer raises than this: as many stages as there may be, times the ceiling, are fewer
+abbrev pub manyRaises : ℕ
+manyRaises = 2 ^ 42

@@ -20,20 +20,22 @@ everyState p f = every (states p) (λ s. f s (nodeAt p s))
 abbrev pub everyAction : List Action → (Action → Bool) → Bool
 everyAction acts f = every (length acts) (λ i. f (actionAt acts i))
 
--- S4.1, room: has the index table 1,024 entries or more?
-unfoldable pub question1 : ℕ → Bool
-question1 entries = leb maxStates entries
+-- Questions 1 and 3 have the limit of stages as their first argument, so that a call under another limit can be spoken of (S8.12); it is
+-- 4,096, `maxStates`, where no other is named.
+-- S4.1, room: has the index table as many entries as that, or more?
+unfoldable pub question1 : ℕ → ℕ → Bool
+question1 limit entries = leb limit entries
 
 -- S4.2, size: has the sheet 20 to 60,000 bytes?
 unfoldable pub question2 : List ℕ → Bool
 question2 s = all (leb minBytes (length s) ∷ leb (length s) maxBytes ∷ [])
 
--- S4.3, head: does it begin with a head whose kind is 0 or 1, stages 1 to 1,024, start below that number?
-unfoldable pub question3 : List ℕ → Bool
-question3 s =
+-- S4.3, head: does it begin with a head whose kind is 0 or 1, stages 1 to the limit, start below that number?
+unfoldable pub question3 : ℕ → List ℕ → Bool
+question3 limit s =
     all (
     eqb (tag s) headTag ∷ eqb (contentLength s) headLength ∷ leb headSize (length s) ∷ leb (getD s kindIn 0) 1
-    ∷ leb 1 (be16 s statesIn) ∷ leb (be16 s statesIn) maxStates ∷ ltb (be16 s startIn) (be16 s statesIn) ∷ []
+    ∷ leb 1 (be16 s statesIn) ∷ leb (be16 s statesIn) limit ∷ ltb (be16 s startIn) (be16 s statesIn) ∷ []
     )
 
 -- S4.4, fields: is the remainder exactly those stages, in the order and lengths of the format?
@@ -114,38 +116,58 @@ stateQuestions p cells =
     ∷ question 8 (λ _. question8 p cells)
     ∷ []
 
--- questions 2 to 8, which are about the sheet alone
-abbrev pub sheetQuestions : List ℕ → List Question
-sheetQuestions s =
+-- questions 2 to 8, which are about the sheet alone, under a limit of stages
+abbrev pub sheetQuestionsUnder : ℕ → List ℕ → List Question
+sheetQuestionsUnder limit s =
     question 2 (λ _. question2 s)
-    ∷ question 3 (λ _. question3 s)
+    ∷ question 3 (λ _. question3 limit s)
     ∷ question 4 (λ _. question4 s)
     ∷ stateQuestions (problemOf s) (cellsOf s)
 
 -- questions 1 to 8, of a sheet with a table of so many entries
-abbrev pub checkQuestions : List ℕ → ℕ → List Question
-checkQuestions s entries = question 1 (λ _. question1 entries) ∷ sheetQuestions s
+abbrev pub checkQuestionsUnder : ℕ → List ℕ → ℕ → List Question
+checkQuestionsUnder limit s entries = question 1 (λ _. question1 limit entries) ∷ sheetQuestionsUnder limit s
 
 -- the nine questions of a call with a budget, in the order in which they are put
+abbrev pub questionsUnder : ℕ → List ℕ → ℕ → ℕ → List Question
+questionsUnder limit s entries budget = checkQuestionsUnder limit s entries ++ (question 9 (λ _. question9 budget) ∷ [])
+
+-- the same under the limit of S4.1 and S4.3: those that every call puts
+abbrev pub sheetQuestions : List ℕ → List Question
+sheetQuestions = sheetQuestionsUnder maxStates
+
+abbrev pub checkQuestions : List ℕ → ℕ → List Question
+checkQuestions = checkQuestionsUnder maxStates
+
 abbrev pub questions : List ℕ → ℕ → ℕ → List Question
-questions s entries budget = checkQuestions s entries ++ (question 9 (λ _. question9 budget) ∷ [])
+questions = questionsUnder maxStates
 
 -- S5.1: the number of the first of some questions whose answer is no; 0 where there is none
 unfoldable pub firstNo : List Question → ℕ
 firstNo [] = 0
 firstNo (asked ∷ more) = fork (asked .answer tt) (λ _. firstNo more) (λ _. asked .number)
 
--- the refusal of a sheet with a table of so many entries, by questions 1 to 8; 0 where there is none
-unfoldable pub sheetRefusal : List ℕ → ℕ → ℕ
-sheetRefusal s entries = firstNo (checkQuestions s entries)
+-- under a limit of stages, the refusal of a sheet with a table of so many entries, by questions 1 to 8; 0 where there is none
+unfoldable pub sheetRefusalUnder : ℕ → List ℕ → ℕ → ℕ
+sheetRefusalUnder limit s entries = firstNo (checkQuestionsUnder limit s entries)
 
 -- the refusal of a call on a sheet, with a table of so many entries and a budget; 0 where there is none
-unfoldable pub refusal : List ℕ → ℕ → ℕ → ℕ
-refusal s entries budget = firstNo (questions s entries budget)
+unfoldable pub refusalUnder : ℕ → List ℕ → ℕ → ℕ → ℕ
+refusalUnder limit s entries budget = firstNo (questionsUnder limit s entries budget)
 
 -- an accepted sheet (S8): a yes to every question but those on the table and the budget
-unfoldable pub accepted : List ℕ → Bool
-accepted s = eqb (firstNo (sheetQuestions s)) 0
+unfoldable pub acceptedUnder : ℕ → List ℕ → Bool
+acceptedUnder limit s = eqb (firstNo (sheetQuestionsUnder limit s)) 0
+
+-- the same under the limit of S4.1 and S4.3
+abbrev pub sheetRefusal : List ℕ → ℕ → ℕ
+sheetRefusal = sheetRefusalUnder maxStates
+
+abbrev pub refusal : List ℕ → ℕ → ℕ → ℕ
+refusal = refusalUnder maxStates
+
+abbrev pub accepted : List ℕ → Bool
+accepted = acceptedUnder maxStates
 
 -- the question of a list that stands behind i others, and its answer; past the end, one that is answered yes
 abbrev pub questionAt : List Question → ℕ → Question

@@ -8,10 +8,10 @@ use Rattle.model.specs.declared.Outcome.the-variants.{Refused, Settled, 
 use Rattle.model.specs.declared.Answer.{Answer}
 use Rattle.model.specs.Tests.{fork}
 use Rattle.model.specs.Problem.{Problem, Cell, cellOf, solved}
-use Rattle.model.specs.Limits.{ceiling}
+use Rattle.model.specs.Limits.{maxStates, ceiling}
 use Rattle.model.specs.Format.{write, headSize, offsetsFrom}
 use Rattle.model.specs.Read.{problemOf, cellsOf}
-use Rattle.model.specs.Questions.{sheetRefusal, refusal}
+use Rattle.model.specs.Questions.{sheetRefusal, refusalUnder}
 use Rattle.model.specs.Ldfs.{Passes, searchOf, work}
 
 -- S7.1: the number of each outcome: a refusal's own, and 100, 101, 102
@@ -59,19 +59,28 @@ unfoldable pub onRefusal : {A : Type 0} → ℕ → (Unit {0} → A) → (ℕ �
 onRefusal zero f g = f tt
 onRefusal (suc n) f g = g (suc n)
 
--- the answer to a call on the sheet s, with a table of so many entries and a budget
-unfoldable pub answerTo : List ℕ → ℕ → ℕ → Answer
-answerTo s entries budget =
-    onRefusal (refusal s entries budget) (λ _. finished (problemOf s) budget (work (problemOf s) (cellsOf s) budget)) (refused budget)
+-- the answer to a call on the sheet s, with a table of so many entries and a budget, under a limit of stages
+unfoldable pub answerUnder : ℕ → List ℕ → ℕ → ℕ → Answer
+answerUnder limit s entries budget =
+    onRefusal (refusalUnder limit s entries budget)
+    (λ _. finished (problemOf s) budget (work (problemOf s) (cellsOf s) budget)) (refused budget)
 
--- the same in numbers
+-- S5.3, S7.4: the sheet's bytes after it: unchanged when refused, else values, marks and chosen checks as work left them
+unfoldable pub bytesUnder : ℕ → List ℕ → ℕ → ℕ → List ℕ
+bytesUnder limit s entries budget =
+    onRefusal (refusalUnder limit s entries budget)
+    (λ _. write (problemOf s) (cellsAfter (work (problemOf s) (cellsOf s) budget))) (λ _. s)
+
+-- the same under the limit of S4.1 and S4.3: what a call answers and leaves
+abbrev pub answerTo : List ℕ → ℕ → ℕ → Answer
+answerTo = answerUnder maxStates
+
+abbrev pub bytesAfter : List ℕ → ℕ → ℕ → List ℕ
+bytesAfter = bytesUnder maxStates
+
+-- the answer in numbers
 unfoldable pub report : List ℕ → ℕ → ℕ → List ℕ
 report s entries budget = numbers (answerTo s entries budget)
-
--- S5.3, S7.4: the sheet's bytes after the call: unchanged when refused, else values, marks and chosen checks as work left them
-unfoldable pub bytesAfter : List ℕ → ℕ → ℕ → List ℕ
-bytesAfter s entries budget =
-    onRefusal (refusal s entries budget) (λ _. write (problemOf s) (cellsAfter (work (problemOf s) (cellsOf s) budget))) (λ _. s)
 
 -- S3.5: an index table of so many entries: entry i is the offset of stage i's field, and every entry past the last stage is 0
 unfoldable pub indexTable : Problem → ℕ → List ℕ
@@ -87,6 +96,10 @@ refusedTable t (suc (suc n)) = replicate (length t) 0
 unfoldable pub checkedTable : List ℕ → List ℕ → List ℕ
 checkedTable s t = onRefusal (sheetRefusal s (length t)) (λ _. indexTable (problemOf s) (length t)) (refusedTable t)
 
--- the table's content after the call
-unfoldable pub tableAfter : List ℕ → List ℕ → ℕ → List ℕ
-tableAfter s t budget = onRefusal (refusal s (length t) budget) (λ _. indexTable (problemOf s) (length t)) (refusedTable t)
+-- the table's content after the call, under a limit of stages, and under that of S4.1 and S4.3
+unfoldable pub tableUnder : ℕ → List ℕ → List ℕ → ℕ → List ℕ
+tableUnder limit s t budget =
+    onRefusal (refusalUnder limit s (length t) budget) (λ _. indexTable (problemOf s) (length t)) (refusedTable t)
+
+abbrev pub tableAfter : List ℕ → List ℕ → ℕ → List ℕ
+tableAfter = tableUnder maxStates

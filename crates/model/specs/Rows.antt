@@ -1,5 +1,5 @@
 -- The worked examples (S11), in one table. `proofs/RowsHold.antt` has one proof across it that the definitions give what is expected.
-use Prim.Native.Nat.{ℕ, zero, suc, _+_, _-_, _*_, _^_, min}
+use Prim.Native.Nat.{ℕ, zero, suc, _+_, _*_, _^_, min}
 use mathlib.Core.Path.{_≡_}
 use mathlib.Core.List.{List, [], _∷_, _++_}
 use lib.ListN.{getD, set, take}
@@ -119,9 +119,12 @@ atCeiling m =
     write (problem whole 0 (decision (action 1 (upFrom 1 m) ∷ []) ∷ doubling 1 (9 + m)))
     (cell 1000000000 1 0 ∷ doubled (9 + m))
 
--- a row with a table of as many entries as are needed
+-- a row with a table of so many entries; with one of as many as are needed
+abbrev rowWith : ℕ → List ℕ → ℕ → Expected → Row
+rowWith entries s budget e = record { sheet = s; entries = entries; budget = budget; expected = e }
+
 abbrev row : List ℕ → ℕ → Expected → Row
-row s budget e = record { sheet = s; entries = maxStates; budget = budget; expected = e }
+row = rowWith maxStates
 
 -- settled, over, stopped, refused: price, passes, raises
 abbrev settled : ℕ → ℕ → ℕ → Expected
@@ -140,7 +143,8 @@ refusedBy n = answers (n ∷ 0 ∷ 0 ∷ 0 ∷ [])
 abbrev carriedOn : List ℕ → ℕ → List ℕ
 carriedOn s budget = bytesAfter s maxStates budget
 
--- The rows of S11 in its order, but for the chain of 999 junctions (S11.13), which is too large to compute here; then more rows.
+-- The rows of S11 in its order, but for the chain of 999 junctions (S11.13) and the 4,096 endings (S11.22), which are too large to compute
+-- here; then more rows.
 unfoldable pub rows : List Row
 unfolding repeat upFrom doubling doubled
 rows =
@@ -164,12 +168,17 @@ rows =
     ∷ row (manyChecks 17) largest (refusedBy 4)
     ∷ row (manyFindings 16) largest accepts
     ∷ row (manyFindings 17) largest (refusedBy 4)
+    -- S11.20, S11.21; the number of stages is 16 · 256 + 0 and 16 · 256 + 1
+    ∷ rowWith 4095 sheetA largest (refusedBy 1)
+    ∷ rowWith 4096 sheetA largest (settled 500 3 3)
+    ∷ rowWith 4200 sheetA largest (settled 500 3 3)
+    ∷ row (set (set (oneEnding 0) 4 16) 5 0) largest (refusedBy 4)
+    ∷ row (set (set (oneEnding 0) 4 16) 5 1) largest (refusedBy 3)
     -- S11.17 to S11.19
     ∷ row (sheetC 0 10 40 40 20) largest (settled 50 4 7)
     ∷ row (sheetC 1 10 40 40 20) largest (settled 120 6 9)
     ∷ row (sheetC 0 0 0 0 0) largest (settled 10 2 1)
     -- beside those of S11
-    ∷ record { sheet = sheetA; entries = maxStates - 1; budget = largest; expected = refusedBy 1 }
     ∷ row (take 19 (oneEnding 0)) largest (refusedBy 2)
     ∷ row (set sheetA 23 0) largest (refusedBy 5)
     ∷ row abandoned largest (settled 150 1 1)

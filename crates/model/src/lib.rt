@@ -3,7 +3,7 @@ pub mod format; // format.rt: tags, lengths, offsets and sizes of fields
 
 // Limits: those of `specs/Limits.antt`.
 // The most stages of a sheet, and the fewest entries of its index table (S4.1, S4.3).
-pub const MAX_STATES: usize = 1024;
+pub const MAX_STATES: usize = 4096;
 
 // The fewest and the most bytes of a sheet (S4.2).
 pub const MIN_BYTES: usize = 20;

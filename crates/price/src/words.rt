@@ -27,7 +27,7 @@ pub fn words(fd: i32, n: u32) -> bool {
     match n {
         1 => io::write_all(
             fd,
-            b" (S4.1): the index table has no room for 1,024 entries\n",
+            b" (S4.1): the index table has no room for 4,096 entries\n",
         ),
         2 => io::write_all(fd, b" (S4.2): the sheet's size is not 20 to 60,000 bytes\n"),
         3 => io::write_all(

@@ -2,7 +2,7 @@
 use Prim.Native.Nat.{ℕ, zero, suc, _-_, _<_, _≤_}
 use mathlib.Core.Path.{_≡_, refl, sym, ap, _∙_}
 use mathlib.Core.Bool.{Bool, true, false}
-use mathlib.Core.List.{List, [], _∷_, _++_}
+use mathlib.Core.List.{List, _∷_, _++_}
 use mathlib.Core.Logic.{_⊎_, inl, inr, ⊎-elim}
 use native.Mathlib.Omega.{arith}
 use borrow.Author.Tests.{le-leb, lt-leb}
@@ -13,8 +13,10 @@ use Rattle.model.specs.Format.{Bytes, be16, offsetsFrom}
 use Rattle.model.specs.Read.{nodesGood, nodesRead, problemOf, cellsOf}
 use Rattle.model.specs.Limits.{maxStates, minBytes, maxBytes}
 use Rattle.model.specs.Questions.{question1, question2, question3, question4}
-use Rattle.model.specs.Questions.{question5, question6, question7, question8, Question, question, sheetQuestions, firstNo, sheetRefusal}
+use Rattle.model.specs.Questions.{question5, question6, question7, question8, Question, question, sheetQuestionsUnder, firstNo}
+use Rattle.model.specs.Questions.{sheetRefusal, sheetRefusalUnder}
 use Rattle.model.proofs.QuestionLaws.{first-from}
+use Rattle.model.proofs.LimitLaws.{head-raised}
 use Rattle.model.specs.Report.{onRefusal, indexTable, refusedTable, checkedTable}
 use Rattle.layout.proofs.Same.{read-writes, read-shaped}
 use Rattle.layout.proofs.Index.{states-read}
@@ -23,7 +25,7 @@ use Rattle.sheet.proofs.Laws.{indexed}
 use Rattle.questions.specs.declared.states.Question.the-variants.{Ranges, Findings, Values, Marks}
 use Rattle.questions.specs.declared.Verdict.{Verdict}
 use Rattle.questions.specs.declared.Verdict.the-variants.{Accepted, Refused}
-use Rattle.questions.specs.Put.{passesAt, rangesAt, statesNo, indexedBefore, askedTable}
+use Rattle.questions.specs.Put.{passesAt, rangesAt, statesNo, indexedBefore, servedBy, servedRefusal, askedTable}
 use Rattle.questions.specs.Verdicts.{verdictNumber, verdict}
 
 -- a question answered yes
@@ -74,13 +76,13 @@ module _ (p : Problem) (cells : List Cell) where
         unfolding statesNo firstNo
         no-none a = rw (five, six, seven, a)
 
-module _ (s : List ℕ) where
-  pub too-short : length s < minBytes → 2 ≡ firstNo (sheetQuestions s)
+module _ (limit : ℕ) (s : List ℕ) where
+  pub too-short : length s < minBytes → 2 ≡ firstNo (sheetQuestionsUnder limit s)
   unfolding firstNo question2 all
   too-short h = rw (lt-leb minBytes (length s) h)
 
   module _ (ge : minBytes ≤ length s) where
-    pub too-long : maxBytes < length s → 2 ≡ firstNo (sheetQuestions s)
+    pub too-long : maxBytes < length s → 2 ≡ firstNo (sheetQuestionsUnder limit s)
     unfolding firstNo question2 all
     too-long h = rw (le-leb minBytes (length s) ge, lt-leb (length s) maxBytes h)
 
@@ -89,32 +91,33 @@ module _ (s : List ℕ) where
       unfolding question2 all
       two = rw (le-leb minBytes (length s) ge, le-leb (length s) maxBytes le)
 
-      pub no-3 : question3 s ≡ false → 3 ≡ firstNo (sheetQuestions s)
+      pub no-3 : question3 limit s ≡ false → 3 ≡ firstNo (sheetQuestionsUnder limit s)
       unfolding firstNo
       no-3 h = rw (two, h)
 
-      module _ (head : question3 s ≡ true) (n : ℕ) (count : n ≡ be16 s 4) where
-        pub no-4 : nodesGood n (drop 8 s) ≡ false → 4 ≡ firstNo (sheetQuestions s)
+      module _ (head : question3 limit s ≡ true) (n : ℕ) (count : n ≡ be16 s 4) where
+        pub no-4 : nodesGood n (drop 8 s) ≡ false → 4 ≡ firstNo (sheetQuestionsUnder limit s)
         unfolding firstNo question4
         no-4 h = rw (two, head, ← count, h)
 
--- A sheet of a right length whose head is in place, as are its n states.
-pub record Laid (s : List ℕ) (n : ℕ) : Type 0 where
+-- A sheet of a right length whose head is in place under a limit of states, as are its n states.
+pub record Laid (limit : ℕ) (s : List ℕ) (n : ℕ) : Type 0 where
   pub least : minBytes ≤ length s
   pub most : length s ≤ maxBytes
-  pub head : question3 s ≡ true
+  pub within : limit ≤ maxStates
+  pub head : question3 limit s ≡ true
   pub count : n ≡ be16 s 4
   pub good : nodesGood n (drop 8 s) ≡ true
 
-module _ {s : List ℕ} {n : ℕ} (h : Laid s n) where
+module _ {limit : ℕ} {s : List ℕ} {n : ℕ} (h : Laid limit s n) where
   in-place : question4 s ≡ true
   unfolding question4
   in-place = rw (← h .count) (h .good)
 
   -- questions 5 to 8 are left
-  pub then-states : firstNo (sheetQuestions s) ≡ statesNo (problemOf s) (cellsOf s)
+  pub then-states : firstNo (sheetQuestionsUnder limit s) ≡ statesNo (problemOf s) (cellsOf s)
   unfolding firstNo statesNo
-  then-states = rw (two s (h .least) (h .most), h .head, in-place)
+  then-states = rw (two limit s (h .least) (h .most), h .head, in-place)
 
   -- n and the nodes read are those of its problem
   pub states-are : n ≡ states (problemOf s)
@@ -127,9 +130,10 @@ module _ {s : List ℕ} {n : ℕ} (h : Laid s n) where
   -- a table that begins with the offsets makes a sheet, which has a state
   pub zero-within : Bytes s → (t rest : List ℕ) → t ≡ offsetsFrom 8 (nodesRead n (drop 8 s)) ++ rest → (0 < n) × Within s t 0
   zero-within byte t rest e =
-      let shaped = read-shaped s byte (h .head) in-place in
+      let head = head-raised (h .within) s (h .head) in
+      let shaped = read-shaped s byte head in-place in
       let some : 0 < n = omega (arith, shaped .some, states-are) in
-      (some, record { sheet = indexed rest (read-writes s byte (h .head) in-place) shaped (e ∙ rw nodes-are); below = shaped .some })
+      (some, record { sheet = indexed rest (read-writes s byte head in-place) shaped (e ∙ rw nodes-are); below = shaped .some })
 
   -- the table by its problem
   pub table-is : (t rest : List ℕ) → t ≡ offsetsFrom 8 (nodesRead n (drop 8 s)) ++ drop n rest → t ≡ indexedBefore s rest
@@ -142,37 +146,43 @@ cleared t = take 0 t ++ replicate (length t - 0) 0
 pub cleared-zeros : (t : List ℕ) → cleared t ≡ replicate (length t) 0
 cleared-zeros t = let z : length t - 0 ≡ length t = omega arith in rw z
 
--- The verdict, and the table once questions 1 to 8 have been put.
+-- The verdict, and the table once questions 2 to 8 have been put under the limit that it serves.
 module _ (s t : List ℕ) where
-  pub short-table : length t < maxStates →
-      (Refused 1 ≡ verdict (sheetRefusal s (length t))) × (t ≡ askedTable s t) × (t ≡ checkedTable s t)
-  unfolding askedTable checkedTable sheetRefusal firstNo question1 verdict onRefusal refusedTable
-  short-table h = rw (lt-leb maxStates (length t) h) (refl, refl, refl)
+  -- question 1 is answered yes
+  refusal-is : servedRefusal s t ≡ firstNo (sheetQuestionsUnder (servedBy (length t)) s)
+  unfolding sheetRefusalUnder question1
+  refusal-is =
+      let limit = servedBy (length t) in
+      yes (question 1 (λ _. question1 limit (length t))) (sheetQuestionsUnder limit s) (le-leb limit (length t) (omega arith))
 
-  module _ (ge : maxStates ≤ length t) where
-    -- question 1 is answered yes
-    refusal-is : sheetRefusal s (length t) ≡ firstNo (sheetQuestions s)
-    unfolding sheetRefusal question1
-    refusal-is = yes (question 1 (λ _. question1 (length t))) (sheetQuestions s) (le-leb maxStates (length t) ge)
+  module _ (r : ℕ) (is : r ≡ firstNo (sheetQuestionsUnder (servedBy (length t)) s)) where
+    pub accepted-table : (t′ : List ℕ) → r ≡ 0 → t′ ≡ indexedBefore s t →
+        (Accepted ≡ verdict (servedRefusal s t)) × (t′ ≡ askedTable s t)
+    unfolding askedTable verdict onRefusal
+    accepted-table t′ none e = rw (refusal-is, ← is, none) (refl, e)
 
-    module _ (r : ℕ) (is : r ≡ firstNo (sheetQuestions s)) where
-      pub accepted-table : (t′ : List ℕ) → r ≡ 0 → t′ ≡ indexedBefore s t →
-          (Accepted ≡ verdict (sheetRefusal s (length t))) × (t′ ≡ askedTable s t)
-      unfolding askedTable verdict onRefusal
-      accepted-table t′ none e = rw (refusal-is, ← is, none) (refl, e)
+    pub refused-table : (t′ t″ : List ℕ) → (r ≡ 0 → ⊥) → length t′ ≡ length t → t″ ≡ cleared t′ →
+        (Refused r ≡ verdict (servedRefusal s t)) × (t″ ≡ askedTable s t)
+    unfolding askedTable verdict onRefusal refusedTable
+    refused-table t′ t″ some long last = rw (refusal-is, ← is) (go r two)
+      where
+        two : 2 ≤ r
+        two =
+            ⊎-elim (λ z. absurd (some (is ∙ z))) (λ l. rw is l) (first-from 2 (sheetQuestionsUnder (servedBy (length t)) s) refl)
 
-      pub refused-table : (t′ t″ : List ℕ) → (r ≡ 0 → ⊥) → length t′ ≡ length t → t″ ≡ cleared t′ →
-          (Refused r ≡ verdict (sheetRefusal s (length t))) × (t″ ≡ askedTable s t)
-      unfolding askedTable verdict onRefusal refusedTable
-      refused-table t′ t″ some long last = rw (refusal-is, ← is) (go r two)
-        where
-          two : 2 ≤ r
-          two = ⊎-elim (λ z. absurd (some (is ∙ z))) (λ l. rw is l) (first-from 2 (sheetQuestions s) refl)
+        go : (k : ℕ) → 2 ≤ k → (Refused k ≡ verdict k) × (t″ ≡ onRefusal k (λ _. indexedBefore s t) (refusedTable t))
+        go zero le = absurd (omega arith)
+        go (suc zero) le = absurd (omega arith)
+        go (suc (suc k)) le = (refl, last ∙ cleared-zeros t′ ∙ rw long)
 
-          go : (k : ℕ) → 2 ≤ k → (Refused k ≡ verdict k) × (t″ ≡ onRefusal k (λ _. indexedBefore s t) (refusedTable t))
-          go zero le = absurd (omega arith)
-          go (suc zero) le = absurd (omega arith)
-          go (suc (suc k)) le = (refl, last ∙ cleared-zeros t′ ∙ rw long)
+  -- a table of fewer entries than the limit of all sheets is refused by question 1, and left as it was
+  pub short-table : length t < maxStates → (Refused 1 ≡ verdict (sheetRefusal s (length t))) × (t ≡ checkedTable s t)
+  unfolding checkedTable sheetRefusalUnder firstNo question1 verdict onRefusal refusedTable
+  short-table h = rw (lt-leb maxStates (length t) h) (refl, refl)
+
+-- a table of as many entries serves every sheet
+pub serves-all : (n : ℕ) → maxStates ≤ n → servedBy n ≡ maxStates
+serves-all n ge = omega arith
 
 -- zeros less the first n are zeros
 zeros-left : (m n : ℕ) → drop {A = ℕ} n (replicate m 0) ≡ replicate (m - n) 0
@@ -196,14 +206,15 @@ cleared-length t = rw (cleared-zeros, length-replicate)
 
 -- the questions put with a table t that was cleared first
 pub cleared-table : (s t t″ : List ℕ) {v : Verdict} → maxStates ≤ length t →
-    v ≡ verdict (sheetRefusal s (length (cleared t))) →
+    v ≡ verdict (servedRefusal s (cleared t)) →
     t″ ≡ askedTable s (cleared t) → (v ≡ verdict (sheetRefusal s (length t))) × (t″ ≡ checkedTable s t)
 unfolding askedTable checkedTable
 cleared-table s t t″ ge answer table =
-    let long = cleared-length t in
+    let all = serves-all (length t) ge in
+    let same : servedRefusal s (cleared t) ≡ sheetRefusal s (length t) = rw (cleared-length t, all) in
     let number : (sheetRefusal s (length t) ≡ 0) ⊎ (2 ≤ sheetRefusal s (length t)) =
-    rw (refusal-is s t ge) (first-from 2 (sheetQuestions s) refl) in
-    (rw long at answer, (rw long at table) ∙ from-cleared s t (sheetRefusal s (length t)) number)
+    rw (← all, refusal-is s t) (first-from 2 (sheetQuestionsUnder (servedBy (length t)) s) refl) in
+    (rw same at answer, (rw same at table) ∙ from-cleared s t (sheetRefusal s (length t)) number)
 
 -- a verdict's number is the one that it was made of
 pub verdict-number : (n : ℕ) → verdictNumber (verdict n) ≡ n

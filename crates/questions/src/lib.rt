@@ -9,10 +9,10 @@ ghost use lib.ListN.{length, take, replicate};
 ghost use Rattle.model.specs.Problem.{states};
 ghost use Rattle.model.specs.Read.{problemOf, cellsOf};
 ghost use Rattle.model.specs.Limits.{maxStates};
-ghost use Rattle.model.specs.Questions.{question3, sheetQuestions, firstNo, sheetRefusal};
+ghost use Rattle.model.specs.Questions.{question3, sheetQuestionsUnder, firstNo, sheetRefusal};
 ghost use Rattle.model.specs.Report.{checkedTable};
 ghost use Rattle.sheet.specs.Sheet.{Within};
-ghost use Rattle.questions.specs.Put.{statesNo, indexedBefore, askedTable};
+ghost use Rattle.questions.specs.Put.{statesNo, indexedBefore, servedBy, servedRefusal, askedTable};
 ghost use Rattle.questions.specs.Verdicts.{verdict};
 use fields::fields_in_place;
 use model::FIELDS;
@@ -32,19 +32,16 @@ use sheet::numbers::get16;
 use states::Question;
 use states::all_pass;
 
-// The most states, as the head has the number.
-const MOST_STATES: u32 = MAX_STATES as u32;
-
 // A sheet's answer to questions 1 to 8: accepted, or refused by the number of the first whose answer is no.
 pub enum Verdict {
     Accepted,
     Refused(u32),
 }
 
-// Question 3 (S4.3): is the head in place, with its kind, its number of states and its start in their ranges?
-fn head_in_place(s: &[u8]) -> bool
+// Question 3 (S4.3) under a limit of states: is the head in place, with its kind, its number of states and its start in their ranges?
+fn head_in_place(s: &[u8], limit: usize) -> bool
     requires { ⌜ 8 ≤ length (now s) ⌝ }
-    ensures { λ r. ⌜ r ≡ question3 (now (s .entry)) ⌝ }
+    ensures { λ r. ⌜ r ≡ question3 limit (now (s .entry)) ⌝ }
 {
     if s[0] == format::HEAD_TAG {
         if get16(s, format::LENGTH_IN) == format::HEAD_LENGTH {
@@ -55,7 +52,7 @@ fn head_in_place(s: &[u8]) -> bool
             if n < 1 {
                 return false;
             }
-            if n > MOST_STATES {
+            if word_to_index(n) > limit {
                 return false;
             }
             get16(s, format::START_IN) < n
@@ -92,10 +89,11 @@ fn states_no(sheet: &[u8], table: &[u32], n: usize) -> u32
     }
 }
 
-// Questions 2 to 8: the number of the first whose answer is no, 0 where there is none; then the table begins with the states' offsets.
-fn first_no(sheet: &[u8], table: &mut [u32]) -> u32
-    requires { ⌜ maxStates ≤ length (now table) ⌝ }
-    ensures { λ r. ⌜ r ≡ firstNo (sheetQuestions (now (sheet .entry))) ⌝ }
+// Questions 2 to 8 under a limit of states: the number of the first whose answer is no, 0 where there is none; then the table begins with
+// the states' offsets.
+fn first_no(sheet: &[u8], table: &mut [u32], limit: usize) -> u32
+    requires { ⌜ (limit ≤ length (now table)) × (limit ≤ maxStates) ⌝ }
+    ensures { λ r. ⌜ r ≡ firstNo (sheetQuestionsUnder limit (now (sheet .entry))) ⌝ }
     ensures { λ r. ⌜ (r ≡ 0 → now (table .exit) ≡ indexedBefore (now (sheet .entry)) (now (table .entry))) ⌝ }
 {
     if sheet.len() < MIN_BYTES {
@@ -104,7 +102,7 @@ fn first_no(sheet: &[u8], table: &mut [u32]) -> u32
     if sheet.len() > MAX_BYTES {
         return SIZE;
     }
-    if head_in_place(sheet) {
+    if head_in_place(sheet, limit) {
         let n = word_to_index(get16(sheet, format::STATES_IN));
         if fields_in_place(sheet, table, n) {
             states_no(sheet, table, n)
@@ -127,16 +125,26 @@ pub fn clear(table: &mut [u32], from: usize)
     }
 }
 
-// Questions 1 to 8 put to any bytes, with any table. The table's later content is unchanged at 1, all zero at 2 to 8, and when accepted it
-// begins with the states' offsets and stays as it was past the last state.
+// The limit of states that a table serves.
+fn served(table: &[u32]) -> usize
+    ensures { λ r. ⌜ r ≡ servedBy (length (now (table .entry))) ⌝ }
+{
+    if MAX_STATES < table.len() {
+        MAX_STATES
+    } else {
+        table.len()
+    }
+}
+
+// Questions 2 to 8 put to any bytes, with any table, under the limit of states that the table serves: a table of fewer than `MAX_STATES`
+// entries does for a sheet of no more states than that. The table's later content is all zero where a question is answered no, and when
+// accepted it begins with the states' offsets and stays as it was past the last state.
 pub fn ask(sheet: &[u8], table: &mut [u32]) -> Verdict
-    ensures answer { λ r. ⌜ r ≡ verdict (sheetRefusal (now (sheet .entry)) (length (now (table .entry)))) ⌝ }
+    ensures answer { λ r. ⌜ r ≡ verdict (servedRefusal (now (sheet .entry)) (now (table .entry))) ⌝ }
     ensures table { λ _. ⌜ now (table .exit) ≡ askedTable (now (sheet .entry)) (now (table .entry)) ⌝ }
 {
-    if table.len() < MAX_STATES {
-        return Verdict::Refused(ROOM);
-    }
-    let n = first_no(sheet, table);
+    let limit = served(table);
+    let n = first_no(sheet, table, limit);
     if n == 0 {
         Verdict::Accepted
     } else {

@@ -8,6 +8,7 @@ use super::lines::LARGEST;
 use super::lines::ask_line;
 use super::lines::work_line;
 use super::sheets::B;
+use model::MAX_STATES;
 
 // Writes a sheet with a number changed, which may lie just past its end, and answers its number of bytes.
 pub fn lay(sheet: &mut [u8], base: &[u8], at: usize, size: usize, x: u32) -> usize {
@@ -19,7 +20,7 @@ pub fn lay(sheet: &mut [u8], base: &[u8], at: usize, size: usize, x: u32) -> usi
 // A line of `check`.
 pub fn ask(label: &[u8], base: &[u8], at: usize, size: usize, x: u32) {
     let mut sheet = [0u8; 128];
-    let mut table = [0u32; 1024];
+    let mut table = [0u32; MAX_STATES];
     let n = lay(&mut sheet, base, at, size, x);
     ask_line(label, &sheet, n, &mut table);
 }
@@ -32,7 +33,7 @@ pub fn ask_b(label: &[u8], at: usize, size: usize, x: u32) {
 // A line of `check` on one ending.
 pub fn ask_ending(label: &[u8], cost: u32, value: u32, mark: u32) {
     let mut sheet = [0u8; 20];
-    let mut table = [0u32; 1024];
+    let mut table = [0u32; MAX_STATES];
     let at = head(&mut sheet, 1);
     let n = ending(&mut sheet, at, cost, value, mark);
     ask_line(label, &sheet, n, &mut table);
@@ -41,7 +42,7 @@ pub fn ask_ending(label: &[u8], cost: u32, value: u32, mark: u32) {
 // A line of `solve`.
 pub fn work(label: &[u8], base: &[u8], at: usize, size: usize, x: u32, budget: u64) {
     let mut sheet = [0u8; 128];
-    let mut table = [0u32; 1024];
+    let mut table = [0u32; MAX_STATES];
     let n = lay(&mut sheet, base, at, size, x);
     work_line(label, &mut sheet, n, &mut table, budget);
 }

@@ -1,4 +1,4 @@
-// The index table after a call, for tables of 1,023, 1,024 and 1,100 entries that held garbage: 7, 8, 9 and so on.
+// The index table after a call, for tables of 1,024, 4,095, 4,096 and 4,200 entries that held garbage: 7, 8, 9 and so on.
 use super::cases::lay;
 use super::lines::asked;
 use super::lines::number;
@@ -7,6 +7,10 @@ use super::lines::word;
 use super::lines::worked;
 use super::sheets::A;
 use super::sheets::B;
+use model::MAX_STATES;
+
+// The entries of the longest table.
+const LONGEST: usize = 4200;
 
 // The garbage of an entry.
 fn garbage(i: usize) -> u32 {
@@ -66,9 +70,9 @@ fn work_line(label: &[u8], sheet: &mut [u8], n: usize, table: &mut [u32]) {
 // A line of `check` on the first `n` bytes of sheet B with a number changed, and a table of `size` entries.
 fn ask_b(label: &[u8], n: usize, at: usize, width: usize, x: u32, size: usize) {
     let mut sheet = [0u8; 52];
-    let mut table = [0u32; 1100];
+    let mut table = [0u32; LONGEST];
     lay(&mut sheet, &B, at, width, x);
-    if size <= 1100 {
+    if size <= LONGEST {
         ask_line(label, &sheet, n, &mut table[..size], 0);
     }
 }
@@ -76,10 +80,10 @@ fn ask_b(label: &[u8], n: usize, at: usize, width: usize, x: u32, size: usize) {
 // Sheet A by `check`, and by `solve` with no budget: refusal 1 with a table that is too short, else acceptance and refusal 9.
 fn both(size: usize) {
     let mut sheet = [0u8; 81];
-    let mut asked = [0u32; 1100];
-    let mut worked = [0u32; 1100];
+    let mut asked = [0u32; LONGEST];
+    let mut worked = [0u32; LONGEST];
     let n = lay(&mut sheet, &A, 0, 0, 0);
-    if size <= 1100 {
+    if size <= LONGEST {
         ask_line(b"A", &sheet, n, &mut asked[..size], 5);
         work_line(b"A-budget-0", &mut sheet, n, &mut worked[..size]);
     }
@@ -97,9 +101,11 @@ fn each(size: usize) {
     ask_b(b"B-ending-settled-at-0", 52, 39, 1, 1, size);
 }
 
-// A table that is one entry too short, the shortest that serves, and a longer one.
+// A table that served as long as sheets had at most 1,024 stages, one that is an entry too short, the shortest that serves, and a longer
+// one.
 pub fn entries() {
-    both(1023);
-    each(1024);
-    each(1100);
+    both(1024);
+    both(MAX_STATES - 1);
+    each(MAX_STATES);
+    each(LONGEST);
 }

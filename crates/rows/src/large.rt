@@ -14,6 +14,7 @@ use super::lines::work_line;
 use super::sheets::ENDING;
 use super::sheets::FAN;
 use super::sheets::JUNCTION;
+use model::MAX_STATES;
 
 // A head, a block once, a block so many times, and so many endings.
 fn build(
@@ -34,7 +35,7 @@ fn build(
 // endings.
 pub fn both(label: &[u8], stages: u32, block: &[u8], times: u32, endings: u32) {
     let mut sheet = [0u8; 300];
-    let mut table = [0u32; 1024];
+    let mut table = [0u32; MAX_STATES];
     let n = build(&mut sheet, stages, &JUNCTION, block, times, endings);
     word(label);
     ask_line(b"-check", &sheet, n, &mut table);
@@ -54,7 +55,7 @@ pub fn ask_large(
     end: usize,
 ) {
     let mut sheet = [0u8; 60001];
-    let mut table = [0u32; 1024];
+    let mut table = [0u32; MAX_STATES];
     build(&mut sheet, stages, b"", block, times, endings);
     word(label);
     asked(&sheet, n, &mut table);
@@ -65,7 +66,7 @@ pub fn ask_large(
 // A line of `solve` on the sheet of 60,000 bytes: 716 junctions of the form `FAN` and 47 endings, 763 stages.
 pub fn work_full(label: &[u8]) {
     let mut sheet = [0u8; 60000];
-    let mut table = [0u32; 1024];
+    let mut table = [0u32; MAX_STATES];
     let n = build(&mut sheet, 763, b"", &FAN, 716, 47);
     work_line(label, &mut sheet, n, &mut table, LARGEST);
 }
@@ -93,7 +94,7 @@ fn chain(label: &[u8], cost: u32)
     requires { ⌜ cost ≤ 1000000 ⌝ }
 {
     let mut sheet = [0u8; 18002];
-    let mut table = [0u32; 1024];
+    let mut table = [0u32; MAX_STATES];
     let at = links(&mut sheet, cost);
     let n = ending(&mut sheet, at, cost, cost, 0);
     work_line(label, &mut sheet, n, &mut table, LARGEST);

@@ -17,6 +17,7 @@ use super::sheets::FINDINGS_0;
 use super::sheets::ONE;
 use super::sheets::SETTLED_B;
 use ldfs::solve;
+use model::MAX_STATES;
 
 // Questions 2 and 3: bytes and stages, with the offsets of the last stage and of the one past it.
 fn sizes() {
@@ -26,7 +27,9 @@ fn sizes() {
     ask_large(b"bytes-60001", 60001, 763, &FAN, 716, 47, 0, 0);
     work_full(b"bytes-60000-worked");
     ask_large(b"stages-1024", 12296, 1024, &ENDING, 1024, 0, 1023, 1024);
-    ask_large(b"stages-1025", 12308, 1025, &ENDING, 1025, 0, 0, 0);
+    ask_large(b"stages-1025", 12308, 1025, &ENDING, 1025, 0, 1024, 1025);
+    ask_large(b"stages-4096", 49160, 4096, &ENDING, 4096, 0, 4095, 4096);
+    ask_large(b"stages-4097", 49172, 4097, &ENDING, 4097, 0, 0, 4);
 }
 
 // Question 3: the head's kind, start and tag. Question 4: a byte too many, a check without findings and a junction without checks.
@@ -67,7 +70,7 @@ fn values() {
 // A line of `check` on sheet A that `solve` has worked, with a number changed.
 fn ask_worked_a(label: &[u8], at: usize, size: usize, x: u32) {
     let mut sheet = [0u8; 81];
-    let mut table = [0u32; 1024];
+    let mut table = [0u32; MAX_STATES];
     copy(&mut sheet, 0, &A);
     solve(&mut sheet, &mut table, LARGEST);
     put_number(&mut sheet, at, size, x);

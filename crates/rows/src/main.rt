@@ -11,16 +11,16 @@
 // besides.
 // - `bytes-60000`: 8 + 716 * 83 + 47 * 12 bytes, so the last stage, 762, is at 60,000 - 12 = 59,988, and entry 763 is 0. Worked, it is as
 //   above.
-// - `stages-1024`: 8 + 1,023 * 12 = 12,284 is the last stage's offset, so it has 12,296 bytes. 1,025 stages have 12,308 bytes, so question
-//   2 passes and 3 refuses.
+// - `stages-4096`: 8 + 4,095 * 12 = 49,148 is the last stage's offset, so it has 49,160 bytes. 4,097 stages have 49,172 bytes, so question
+//   2 passes and 3 refuses. 1,024 and 1,025 stages have 12,296 and 12,308 bytes, and their last stages the offsets 12,284 and 12,296.
 // - `ending-value-1000000000`, `junction-value-1000000000`: in the range of question 5, and above the cost 1,000,000 and the price 100:
 //   question 7.
 // - `A-settled-chosen-0`: the output for A (S11.16) says that the start chose check 1 at 500. Check 0 then costs 200 + 400, since pass 2
 //   raised stage 1 to 400, and 600 is not 500: question 8. Check 2 is out of range: question 5.
 // - `B-settled` has the least costs 150, 30 and 50 of the row B worst. With a finding open again, or at 149, question 8 refuses it.
 // - `-table` lines: the table's entries were 7, 8, 9 and so on. Refusal 1 leaves them (S5.4), 2 to 9 make all of them 0 (S5.5),
-//   past the 1,024th too; accepted, the entries are A's offsets 8, 37, 57, 69, and every entry past the last stage is 0 (S3.5): 1,024 - 4
-//   and 1,100 - 4 of them.
+//   past the 4,096th too; accepted, the entries are A's offsets 8, 37, 57, 69, and every entry past the last stage is 0 (S3.5): 4,096 - 4
+//   and 4,200 - 4 of them.
 mod bytes; // bytes.rt: bytes and blocks of bytes in a buffer
 mod fields; // fields.rt: numbers and fields in a buffer
 mod sheets; // sheets.rt: the sheets of the cases, and blocks of larger ones

@@ -15,11 +15,12 @@ use super::sheets::FINDINGS_16;
 use super::sheets::FINDINGS_17;
 use super::sheets::FREE_C;
 use super::sheets::ONE;
+use model::MAX_STATES;
 
 // Sheet A stopped, and that sheet carried on.
 fn carried_on() {
     let mut sheet = [0u8; 81];
-    let mut table = [0u32; 1024];
+    let mut table = [0u32; MAX_STATES];
     let n = lay(&mut sheet, &A, 0, 0, 0);
     work_line(b"A-budget-2", &mut sheet, n, &mut table, 2);
     work_line(b"A-carried-on", &mut sheet, n, &mut table, LARGEST);

@@ -4,9 +4,9 @@ use mathlib.Core.Path.{_≡_, refl, _∙_, sym}
 use mathlib.Core.List.{List}
 use native.Mathlib.Omega.{arith}
 use native.Mathlib.Numerals.{add-one}
-use Rattle.model.specs.Problem.{Problem}
+use Rattle.model.specs.Problem.{Problem, states}
 use Rattle.model.specs.Read.{cellsOf}
-use Rattle.model.specs.Limits.{ceiling}
+use Rattle.model.proofs.LimitLaws.{values-few}
 use Rattle.model.specs.Ldfs.{work}
 use Rattle.sheet.specs.Sheet.{Sheet}
 use Rattle.theory.specs.Consistent.{WellFormed, Consistent}
@@ -39,13 +39,12 @@ sets-out {budget} h wf cs = record {
   run = let z : suc budget - 0 ≡ suc budget = omega arith in rw z;
 }
 
--- raises stay far below what 64 bits hold
+-- passes stay far below what 64 bits hold, since raises do (S7.3)
 pub bounded : {t : List ℕ} {p : Problem} {budget : ℕ} {s₀ s : List ℕ} {n r : ℕ} →
     Passing t p budget s₀ s n r → n < 18446744073709551615
-unfolding ceiling
 bounded {p} {budget} {s₀} {s} {r} l =
     let few = leads-bounded p budget (p .start) (reached s₀ 0) (reached s r) refl (l .leads) in
-    omega (arith, l .few, l .sheet .shaped .most, few)
+    omega (arith, l .few, values-few (states p) (l .sheet .shaped .most), few)
 
 -- one more pass
 pub record Passed (t : List ℕ) (p : Problem) (budget : ℕ) (s₀ s : List ℕ) (n r : ℕ) (s′ : List ℕ) (v : Visited) : Type 0 where

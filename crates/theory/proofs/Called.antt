@@ -11,7 +11,7 @@ use Rattle.model.specs.Limits.{ceiling}
 use Rattle.model.specs.Questions.{question2, questions, refusal, First}
 use Rattle.model.specs.Ldfs.{Passes, work}
 use Rattle.model.specs.Optimal.{sumBelow}
-use Rattle.model.specs.Report.{cellsAfter, refused, finished, onRefusal, answerTo, bytesAfter}
+use Rattle.model.specs.Report.{cellsAfter, refused, finished, onRefusal, answerTo, answerUnder, bytesAfter, bytesUnder}
 use Rattle.model.specs.Calls.{Call, callOf, callOn, Calls, none, one, left, raisesIn}
 use Rattle.layout.specs.Shape.{NodeShaped}
 use Rattle.layout.proofs.Shapes.{node-shaped}
@@ -32,15 +32,15 @@ workOn s budget = work (problemOf s) (cellsOf s) budget
 -- What a call answers and leaves, by its refusal.
 module _ (s : List ℕ) (entries budget : ℕ) where
   pub answer-worked : refusal s entries budget ≡ 0 → answerTo s entries budget ≡ finished (problemOf s) budget (workOn s budget)
-  unfolding answerTo onRefusal
+  unfolding answerUnder onRefusal
   answer-worked e = rw e
 
   pub bytes-worked : refusal s entries budget ≡ 0 → bytesAfter s entries budget ≡ write (problemOf s) (cellsAfter (workOn s budget))
-  unfolding bytesAfter onRefusal
+  unfolding bytesUnder onRefusal
   bytes-worked e = rw e
 
   pub answer-refused : (n : ℕ) → refusal s entries budget ≡ suc n → answerTo s entries budget ≡ refused budget (suc n)
-  unfolding answerTo onRefusal
+  unfolding answerUnder onRefusal
   answer-refused n e = rw e
 
   -- where question k is the first that is answered no, the answer is the refusal k
@@ -49,7 +49,7 @@ module _ (s : List ℕ) (entries budget : ℕ) where
   answer-first (suc n) f = answer-refused n (first-refuses s entries budget (suc n) f)
 
   pub bytes-refused : (n : ℕ) → refusal s entries budget ≡ suc n → bytesAfter s entries budget ≡ s
-  unfolding bytesAfter onRefusal
+  unfolding bytesUnder onRefusal
   bytes-refused n e = rw e
 
   -- the answer has the budget that the call was given

@@ -11,7 +11,7 @@ use Rattle.model.specs.Tests.{fork}
 use Rattle.model.specs.Problem.{Problem, Cell, cellOf, valueOf, solved}
 use Rattle.model.specs.Format.{Bytes}
 use Rattle.model.specs.Read.{problemOf, cellsOf}
-use Rattle.model.specs.Limits.{ceiling}
+use Rattle.model.specs.Limits.{maxStates, ceiling, manyRaises}
 use Rattle.model.specs.QValue.{cut}
 use Rattle.model.specs.Questions.{question1, question9, refusal}
 use Rattle.model.specs.Optimal.{gaps}
@@ -23,10 +23,10 @@ use Rattle.theory.proofs.Leads.{solved-of}
 use Rattle.theory.proofs.Admissible.{below-optimal, solved-optimal, written-closed, written-costs, value-least}
 use Rattle.theory.proofs.Work.{Worked}
 use Rattle.theory.proofs.Refusals.{refused-first, refused-below, unrefused-yes}
-use Rattle.theory.proofs.Sheets.{Stands, accepted-stands, stands-problem, stands-cells, stands-accepted, refusals-left, unrefused}
+use Rattle.theory.proofs.Sheets.{Stands, accepted-stands, stands-problem, stands-cells, stands-accepted, stands-left, unrefused}
 use Rattle.theory.proofs.Called.{workOn, answer-worked, answer-refused, budget-given, call-worked, call-refused}
 use Rattle.theory.proofs.Called.{work-done, worked-stands, call-does, CalledAll, calls-do}
-use Rattle.theory.proofs.Promises.{problem-of, cells-of, raises-gaps}
+use Rattle.theory.proofs.Promises.{problem-of, cells-of, raises-gaps, gaps-few}
 use Rattle.theory.proofs.Outcomes.{OutcomeSays, outcome-says}
 
 -- Demand 1, of any bytes, a table of any number of entries and any budget
@@ -208,6 +208,10 @@ was-open {s} {calls} made p cells h t o = go (solved (cellOf cells t)) refl
     go true e = clash (solved-of (d .kept .keeps t e) ∙ e) (rw (stands-cells (left s calls) p (d .last) (d .stands)) at o)
     go false e = refl
 
+-- S7.3: whatever their budgets, all calls on an accepted sheet together make few raises
+pub all-raises-few : {s : List ℕ} {calls : List Call} → Accepted s → Calls s calls → raisesIn calls < manyRaises
+all-raises-few {s} acc made = omega (arith, demand3 acc made .raises-within-gaps, gaps-few s acc)
+
 -- a call on an accepted sheet that leaves the start open has spent what it was granted
 abbrev Spent : Call → Type 0
 Spent c = granted c ≤ c .raises
@@ -215,16 +219,16 @@ Spent c = granted c ≤ c .raises
 grant-spent : (s : List ℕ) (p : Problem) (cells : List Cell) (h : Stands s p cells) (entries budget : ℕ) →
     solved (cellOf (call-does s p cells h entries budget .next) (p .start)) ≡ false → Spent (callOn s entries budget)
 unfolding question9
-grant-spent s p cells h entries budget o = go (question1 entries) refl budget refl
+grant-spent s p cells h entries budget o = go (question1 maxStates entries) refl budget refl
   where
-    why : refusal s entries budget ≡ fork (question1 entries) (λ _. fork (question9 budget) (λ _. 0) (λ _. 9)) (λ _. 1)
-    why = refusals-left s p cells h entries budget
+    why : refusal s entries budget ≡ fork (question1 maxStates entries) (λ _. fork (question9 budget) (λ _. 0) (λ _. 9)) (λ _. 1)
+    why = stands-left s p cells h entries budget
 
     at-most : (b : Bool) (x y : ℕ) → y ≡ x → fork b (λ _. 0) (λ _. x) ≤ y
     at-most true x y e = omega arith
     at-most false x y e = omega arith
 
-    go : (b : Bool) → question1 entries ≡ b → (n : ℕ) → budget ≡ n → Spent (callOn s entries budget)
+    go : (b : Bool) → question1 maxStates entries ≡ b → (n : ℕ) → budget ≡ n → Spent (callOn s entries budget)
     go false e n en = subst Spent (sym (call-refused s entries budget 0 (why ∙ rw e))) (omega arith)
     go true e zero en = subst Spent (sym (call-refused s entries budget 8 (why ∙ rw (e, en)))) (omega arith)
     go true e (suc n) en =

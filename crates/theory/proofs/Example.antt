@@ -1,5 +1,5 @@
 -- Not vacuous: sheet A, by its literal bytes, is accepted, and a list of calls on it, two of them refused, ends settled at 500.
-use Prim.Native.Nat.{ℕ, _<_, _≤_}
+use Prim.Native.Nat.{ℕ, _+_, _<_, _≤_}
 use mathlib.Core.Path.{_≡_, refl}
 use mathlib.Core.Bool.{true}
 use mathlib.Core.Logic.{_⊎_, inl, inr}
@@ -11,26 +11,29 @@ use lib.ListN.{length, getD, List·getD-eq-default}
 use Rattle.model.proofs.TestLaws.{every-true}
 use Rattle.model.specs.Tests.{every}
 use Rattle.model.specs.Problem.{valueOf}
+use Rattle.model.specs.Limits.{maxStates}
 use Rattle.model.specs.Format.{Bytes}
 use Rattle.model.specs.Read.{problemOf, cellsOf}
+use Rattle.model.specs.Questions.{refusalUnder}
 use Rattle.model.proofs.Computing.{computing}
 use Rattle.model.specs.Report.{bytesAfter, largest}
 use Rattle.model.specs.Calls.{Call, callOn, Calls, none, one, left}
-use Rattle.model.specs.Demands.{Accepted, Best, Demand3}
+use Rattle.model.specs.Demands.{Accepted, Best, Demand3, Raised}
 use Rattle.model.specs.Rows.{sheetA}
 use Rattle.theory.proofs.Basics.{lt-or-le}
+use Rattle.theory.proofs.Limits.{accepted-before, limit-raised}
 use Rattle.theory.proofs.Demands.{demand3}
 
 -- budget 2, then a table that is too short, then budget 0, then the largest
 abbrev worked : List ℕ
-worked = bytesAfter sheetA 1024 2
+worked = bytesAfter sheetA maxStates 2
 
 abbrev pub callsA : List Call
-callsA = callOn sheetA 1024 2 ∷ callOn worked 0 2 ∷ callOn worked 1100 0 ∷ callOn worked 1024 largest ∷ []
+callsA = callOn sheetA maxStates 2 ∷ callOn worked 0 2 ∷ callOn worked (maxStates + 4) 0 ∷ callOn worked maxStates largest ∷ []
 
 pub made-A : Calls sheetA callsA
 unfolding computing
-made-A = one 1024 2 (one 0 2 (one 1100 0 (one 1024 largest none)))
+made-A = one maxStates 2 (one 0 2 (one (maxStates + 4) 0 (one maxStates largest none)))
 
 -- what they answer: stopped, refused 1, refused 9, settled
 abbrev numbersOf : Call → List ℕ
@@ -65,3 +68,12 @@ price-A = refl
 pub best-A : Best (problemOf sheetA) (cellsOf (left sheetA callsA))
 unfolding computing left
 best-A = demand-A .best refl (lit< tt)
+
+-- A limit of 4 accepts sheet A, which has as many stages, and one of 3 refuses it; so a raised limit speaks of it
+pub limits-A : (refusalUnder 3 sheetA 3 largest ≡ 3) × (refusalUnder 4 sheetA 4 largest ≡ 0)
+unfolding computing
+limits-A = (refl, refl)
+
+pub raised-A : Raised 4 1024 sheetA × Raised 1024 maxStates sheetA
+unfolding computing
+raised-A = (limit-raised (omega arith) sheetA refl, accepted-before sheetA refl)

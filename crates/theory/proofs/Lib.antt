@@ -11,6 +11,7 @@ pub mod Work
 pub mod Accepted
 pub mod Refusals
 pub mod Sheets
+pub mod Limits
 pub mod Called
 pub mod Outcomes
 pub mod Promises

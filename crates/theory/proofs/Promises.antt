@@ -1,5 +1,5 @@
 -- What holds of every accepted sheet, and of a call on it: what docs/PROMISES.md lists beside the demands.
-use Prim.Native.Nat.{ℕ, zero, suc, _+_, _^_, _<_, _≤_}
+use Prim.Native.Nat.{ℕ, zero, suc, _+_, _<_, _≤_}
 use mathlib.Core.Path.{_≡_, refl}
 use mathlib.Core.Bool.{true}
 use mathlib.Core.List.{List}
@@ -8,7 +8,8 @@ use lib.ListN.{length}
 use Rattle.model.specs.Problem.{Action, decision, Problem, Cell, states, nodeAt, actionAt, cellOf, valueOf, solved}
 use Rattle.model.specs.Format.{Bytes}
 use Rattle.model.specs.Read.{problemOf, cellsOf}
-use Rattle.model.specs.Limits.{ceiling}
+use Rattle.model.specs.Limits.{ceiling, manyRaises}
+use Rattle.model.proofs.LimitLaws.{values-few}
 use Rattle.model.specs.QValue.{cut, dearest, Dearest}
 use Rattle.model.specs.Questions.{refusal}
 use Rattle.model.specs.Optimal.{bellman, bellmanCut, optimal, sumBelow, gap, gaps}
@@ -87,34 +88,35 @@ module _ (s : List ℕ) (acc : Accepted s) where
   dearest-of t i acts e l v =
       let is = action-dearest (problemOf s) wf t i acts e l v in (is, dearest-only v is)
 
+  -- 5: gaps are few, and with them the raises of all calls
+  pub gaps-few : gaps (problemOf s) (cellsOf s) < manyRaises
+  gaps-few =
+      let n = states (problemOf s) in
+      let bound = sum-bounded (gap (problemOf s) (cellsOf s)) ceiling (λ t. omega arith) n in
+      omega (arith, values-few n (stands .asked .shaped .most), bound)
+
   -- One call, with any number of table entries and any budget.
   module _ (entries budget : ℕ) where
     called : Called s (problemOf s) (cellsOf s) entries budget
     called = call-does s (problemOf s) (cellsOf s) stands entries budget
 
-    -- 5: raises are at most the gaps
+    -- 6: raises are at most the gaps
     pub raises-few : answerTo s entries budget .raises ≤ gaps (problemOf s) (cellsOf s)
     raises-few = omega (arith, raises-gaps s _ (problemOf s) (cellsOf s) (called .next) _ stands (called .stands) (called .kept))
 
-    gaps-small : gaps (problemOf s) (cellsOf s) < 2 ^ 41
-    unfolding ceiling
-    gaps-small =
-        let bound = sum-bounded (gap (problemOf s) (cellsOf s)) ceiling (λ t. omega arith) (states (problemOf s)) in
-        omega (arith, stands .asked .shaped .most, bound)
-
-    -- 6: the bytes after it pass questions 2 to 8 again, with the same problem
+    -- 7: the bytes after it pass questions 2 to 8 again, with the same problem
     pub still-a-sheet : Accepted (bytesAfter s entries budget) × (problemOf (bytesAfter s entries budget) ≡ problemOf s)
     still-a-sheet = (
       record { bytes = called .stands .bytes; yes = stands-accepted _ (problemOf s) (called .next) (called .stands) },
       stands-problem _ (problemOf s) (called .next) (called .stands),
     )
 
--- of any bytes: a call makes fewer raises than 2^41
-pub raises-small : (s : List ℕ) → Bytes s → (entries budget : ℕ) → answerTo s entries budget .raises < 2 ^ 41
+-- S7.3, of any bytes: a call makes few raises
+pub raises-small : (s : List ℕ) → Bytes s → (entries budget : ℕ) → answerTo s entries budget .raises < manyRaises
 raises-small s bytes entries budget = go (refusal s entries budget) refl
   where
-    go : (n : ℕ) → refusal s entries budget ≡ n → answerTo s entries budget .raises < 2 ^ 41
+    go : (n : ℕ) → refusal s entries budget ≡ n → answerTo s entries budget .raises < manyRaises
     go zero e =
         let acc : Accepted s = record { bytes = bytes; yes = unrefused s entries budget e } in
-        omega (arith, raises-few s acc entries budget, gaps-small s acc entries budget)
+        omega (arith, raises-few s acc entries budget, gaps-few s acc)
     go (suc n) e = rw (answer-refused s entries budget n e) (omega arith)

@@ -6,7 +6,7 @@ use mathlib.Core.List.{List, [], _∷_}
 use native.Mathlib.Omega.{arith}
 use Rattle.model.proofs.TestLaws.{never}
 use Rattle.model.proofs.QuestionLaws.{AllYes, numbered, none-no, first-below}
-use Rattle.model.specs.Questions.{Question, questions, firstNo, refusal, questionAt, answerAt, First}
+use Rattle.model.specs.Questions.{Question, questions, firstNo, refusal, refusalUnder, questionAt, answerAt, First}
 
 -- where every answer is yes, each is
 all-answered : (asked : List Question) → AllYes asked → (i : ℕ) → answerAt asked i ≡ true
@@ -46,20 +46,20 @@ none-is asked m e = all-answered asked (none-no asked m e)
 module _ (s : List ℕ) (entries budget : ℕ) where
   -- a refusal is by the first question whose answer is no
   pub refused-first : (k : ℕ) → refusal s entries budget ≡ suc k → First (questions s entries budget) (suc k)
-  unfolding refusal
+  unfolding refusalUnder
   refused-first = first-is (questions s entries budget)
 
   -- its number is below those of the outcomes
   pub refused-below : (k : ℕ) → refusal s entries budget ≡ suc k → suc k < 100
-  unfolding refusal
+  unfolding refusalUnder
   refused-below k e = subst (λ n. n < 100) e (first-below 1 (questions s entries budget) refl)
 
   -- where there is none, every answer is yes
   pub unrefused-yes : refusal s entries budget ≡ 0 → (i : ℕ) → answerAt (questions s entries budget) i ≡ true
-  unfolding refusal
+  unfolding refusalUnder
   unrefused-yes = none-is (questions s entries budget) refl
 
   -- the first question whose answer is no is the refusal
   pub first-refuses : (k : ℕ) → First (questions s entries budget) k → refusal s entries budget ≡ k
-  unfolding refusal
+  unfolding refusalUnder
   first-refuses k f = is-first (questions s entries budget) (f .behind) (f .no) (f .yes-before) ∙ f .number

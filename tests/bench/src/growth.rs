@@ -1,6 +1,6 @@
 //! Sheets of about 60,000 bytes that grow in one thing each: the raises that are left to make, the depth, the width.
 
-use crate::sheets::{full_size, head, push_action, push_decision, push_terminal, values_at, Draws, Sample};
+use crate::sheets::{fans, full_size, head, push_action, push_decision, push_terminal, values_at, Draws, Sample};
 
 pub fn all() -> Vec<Sample> {
     let sample = |name, bytes| Sample { name, bytes };
@@ -48,27 +48,11 @@ fn layers(count: usize) -> Vec<u8> {
     bytes
 }
 
-/// Junctions with so many checks of so many findings each, as many as 60,000 bytes and 1,024 stages hold, and 64 endings. A check's
-/// first finding is a junction at most eight further on, the others are endings.
+/// Junctions with so many checks of so many findings each, as many as 60,000 bytes and `STAGES` hold, and 64 endings.
 fn wide(checks: usize, findings: usize) -> Vec<u8> {
+    /// Less than a sheet may have: these sheets stay as they were first measured.
+    const STAGES: usize = 1_024;
     const ENDINGS: usize = 64;
-    let junctions = ((60_000 - 8 - 12 * ENDINGS) / (9 + checks * (7 + 2 * findings))).min(1_024 - ENDINGS);
-    let mut draws = Draws(13);
-    let mut bytes = head(0, junctions + ENDINGS);
-    for number in 0..junctions {
-        push_decision(&mut bytes);
-        for _ in 0..checks {
-            let share = ENDINGS / findings;
-            let mut successors: Vec<usize> = (0..findings).map(|place| junctions + share * place + draws.below(share)).collect();
-            let later = number + 1 + draws.below(8);
-            if later < junctions {
-                successors[0] = later;
-            }
-            push_action(&mut bytes, 1 + draws.below(40), successors);
-        }
-    }
-    for _ in 0..ENDINGS {
-        push_terminal(&mut bytes, draws.below(100));
-    }
-    bytes
+    let junctions = ((60_000 - 8 - 12 * ENDINGS) / (9 + checks * (7 + 2 * findings))).min(STAGES - ENDINGS);
+    fans(junctions, ENDINGS, checks, findings)
 }

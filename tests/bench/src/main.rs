@@ -30,6 +30,7 @@ const SOLVERS: [(&str, Solve); 3] =
 const BOUNDS: [(&str, Solve); 2] =
     [("touch", |s, t, b, r| through(bound_touch, s, t, b, r)), ("sweep", |s, t, b, r| through(bound_sweep, s, t, b, r))];
 
+const TABLE_BYTES: usize = 16_384;
 const ROUNDS: usize = 50;
 const ROUND_TIME: Duration = Duration::from_millis(20);
 const MOST_COPIES: usize = 2_000;
@@ -62,7 +63,7 @@ fn measure_all() {
         println!("built without --release: these times say nothing");
     }
     println!("plain Rust: the profile of this program, release; plain C: cc -O3. All three work in place on the sheet's bytes.");
-    println!("buffers: sheet copied afresh for each call; table (4,096 bytes) and result cleared before each batch of calls;");
+    println!("buffers: sheet copied afresh for each call; table (16,384 bytes) and result cleared before each batch of calls;");
     println!("         both outside the measured time. Each time is one call, the quickest of {ROUNDS} rounds.\n");
     println!(
         "{:<30} {:>7} {:>7} {:>8} {:>12} {:>12} {:>12} {:>9} {:>9}",
@@ -113,7 +114,7 @@ fn measure_growth() {
 /// So many calls, each on a fresh copy of the sheet.
 fn batch(solve: Solve, sample: &Sample, copies: usize) -> Duration {
     let mut sheets: Vec<Vec<u8>> = (0..copies).map(|_| sample.bytes.clone()).collect();
-    let (mut table, mut result) = ([0; 4096], [0; 24]);
+    let (mut table, mut result) = ([0; TABLE_BYTES], [0; 24]);
     let began = Instant::now();
     for sheet in &mut sheets {
         solve(sheet, &mut table, u64::MAX, &mut result);
@@ -132,7 +133,7 @@ fn copies_for(sample: &Sample) -> usize {
 fn same_answers(sample: &Sample) -> (u64, u64) {
     let answer = |solve: Solve| {
         let mut sheet = sample.bytes.clone();
-        let (mut table, mut result) = ([7; 4096], [7; 24]);
+        let (mut table, mut result) = ([7; TABLE_BYTES], [7; 24]);
         let number = solve(&mut sheet, &mut table, u64::MAX, &mut result);
         (number, result, sheet, table)
     };

@@ -3,7 +3,7 @@
 
 const CEILING: u32 = 1_000_000_000;
 const MOST_COST: u32 = 1_000_000;
-const MOST_STATES: usize = 1024;
+const MOST_STATES: usize = 4096;
 
 const HEAD: u8 = 1;
 const TERMINAL: u8 = 2;

@@ -15,8 +15,10 @@ pub fn all() -> Vec<Sample> {
         sample("60,000 bytes, whole, one pass", values_at(full_size(1), 100)),
         sample("many raises, worst", many_raises(0)),
         sample("many raises, whole", many_raises(1)),
-        sample("1,000-deep chain, one pass", values_at(chain(), 100)),
-        sample("1,000-deep chain, blank", chain()),
+        sample("1,000-deep chain, one pass", values_at(chain(1_000), 100)),
+        sample("1,000-deep chain, blank", chain(1_000)),
+        sample("3,332-deep chain, one pass", values_at(chain(3_332), 100)),
+        sample("4,096 stages, one pass", values_at(most_stages(), 100)),
     ]
 }
 
@@ -113,15 +115,44 @@ fn many_raises(kind: u8) -> Vec<u8> {
     bytes
 }
 
-/// 1,000 junctions, each with one check that leads to the next, and an ending.
-fn chain() -> Vec<u8> {
-    const JUNCTIONS: usize = 1_000;
-    let mut bytes = head(0, JUNCTIONS + 1);
-    for number in 0..JUNCTIONS {
+/// So many junctions, each with one check that leads to the next, and an ending.
+fn chain(junctions: usize) -> Vec<u8> {
+    let mut bytes = head(0, junctions + 1);
+    for number in 0..junctions {
         push_decision(&mut bytes);
         push_action(&mut bytes, 10 + number % 7, vec![number + 1]);
     }
     push_terminal(&mut bytes, 500);
+    bytes
+}
+
+/// As many stages as a sheet may have, in 59,996 bytes.
+fn most_stages() -> Vec<u8> {
+    const STAGES: usize = 4_096;
+    const JUNCTIONS: usize = 258;
+    fans(JUNCTIONS, STAGES - JUNCTIONS, 3, 4)
+}
+
+/// Junctions with so many checks of so many findings each, and endings. A check's first finding is a junction at most eight further
+/// on, the others are endings.
+pub fn fans(junctions: usize, endings: usize, checks: usize, findings: usize) -> Vec<u8> {
+    let mut draws = Draws(13);
+    let mut bytes = head(0, junctions + endings);
+    for number in 0..junctions {
+        push_decision(&mut bytes);
+        for _ in 0..checks {
+            let share = endings / findings;
+            let mut successors: Vec<usize> = (0..findings).map(|place| junctions + share * place + draws.below(share)).collect();
+            let later = number + 1 + draws.below(8);
+            if later < junctions {
+                successors[0] = later;
+            }
+            push_action(&mut bytes, 1 + draws.below(40), successors);
+        }
+    }
+    for _ in 0..endings {
+        push_terminal(&mut bytes, draws.below(100));
+    }
     bytes
 }
 

@@ -1,5 +1,6 @@
 //! Lists of calls: with any budget, any table, whatever that held, and any result slice.
 
+use crate::draft::{FORMER_MOST, MOST_STATES};
 use crate::rng::Rng;
 
 pub struct Call {
@@ -10,7 +11,12 @@ pub struct Call {
     pub before: usize,
 }
 
-const TABLE_BYTES: usize = 4096;
+pub const ENTRY_BYTES: usize = 4;
+pub const TABLE_BYTES: usize = ENTRY_BYTES * MOST_STATES;
+
+/// A table that was long enough in version 1 of the interface.
+pub const FORMER_TABLE_BYTES: usize = ENTRY_BYTES * FORMER_MOST;
+
 const RESULT_BYTES: usize = 24;
 
 pub fn draw(rng: &mut Rng) -> Call {
@@ -30,10 +36,10 @@ fn budget(rng: &mut Rng) -> u64 {
     drawn as u64
 }
 
-/// 1,024 entries, more of them, bytes left over, or too few.
+/// 4,096 entries, more of them, bytes left over, or too few.
 fn table_length(rng: &mut Rng) -> usize {
     match rng.below(16) {
-        0 => rng.pick(&[0, 3, 4, 4092, TABLE_BYTES - 1]),
+        0 => rng.pick(&[0, 3, 4, FORMER_TABLE_BYTES, FORMER_TABLE_BYTES + 4, TABLE_BYTES - 4, TABLE_BYTES - 1]),
         1 => rng.below(TABLE_BYTES),
         2..=3 => TABLE_BYTES + rng.between(1, 3),
         4..=6 => TABLE_BYTES + rng.between(4, 40),

@@ -1,6 +1,6 @@
 //! A case from a seed: a sheet, perhaps worked, perhaps damaged, and a list of calls.
 
-use crate::calls::{self, Call};
+use crate::calls::{self, Call, TABLE_BYTES};
 use crate::cells::{self, Worked};
 use crate::damage;
 use crate::rng::Rng;
@@ -9,6 +9,8 @@ use crate::shapes::{self, SHAPES};
 pub struct Case {
     pub shape: &'static str,
     pub damaged: bool,
+    /// How many stages were drawn.
+    pub states: usize,
     pub bytes: Vec<u8>,
     pub calls: Vec<Call>,
     /// The sheet as work with the largest budget leaves it, where that ends soon.
@@ -31,12 +33,13 @@ pub fn make(seed: u64) -> Case {
         damage::bytes(&mut bytes, &mut rng);
     }
     let mut calls: Vec<Call> = (0..rng.between(1, 5)).map(|_| calls::draw(&mut rng)).collect();
-    let most = most_raises(draft.states.len());
+    let states = draft.states.len();
+    let most = most_raises(states);
     let worked = worked_within(&bytes, most);
     if worked.is_none() {
         calls.iter_mut().for_each(|call| call.budget = call.budget.min(most));
     }
-    Case { shape, damaged: in_draft || in_bytes, bytes, calls, worked }
+    Case { shape, damaged: in_draft || in_bytes, states, bytes, calls, worked }
 }
 
 /// Large sheets are worked nearly to their end, or visits would never get far into them.
@@ -44,7 +47,7 @@ fn how_worked(rng: &mut Rng, shape: &str) -> Worked {
     use Worked::*;
     match shape {
         "deep chain" | "chain at the ceiling" => rng.pick(&[Blank, Near, Dented, Dented, Optimal, Optimal]),
-        "sums at the ceiling" | "full size" => rng.pick(&[Blank, Low, Near, Dented, Optimal]),
+        "sums at the ceiling" | "full size" | "many stages" => rng.pick(&[Blank, Low, Near, Dented, Optimal]),
         _ => rng.pick(&[Blank, Blank, Blank, Low, Near, Dented, Optimal]),
     }
 }
@@ -57,6 +60,6 @@ fn most_raises(states: usize) -> u64 {
 /// The sheet as work leaves it, if that ends within a budget. A refused sheet stays as it is.
 fn worked_within(bytes: &[u8], budget: u64) -> Option<Vec<u8>> {
     let mut copy = bytes.to_vec();
-    let number = procedure::call(&mut copy, &mut [0; 4096], budget, &mut [0; 24]);
+    let number = procedure::call(&mut copy, &mut [0; TABLE_BYTES], budget, &mut [0; 24]);
     (number != 102).then_some(copy)
 }

@@ -17,27 +17,32 @@ pub enum Worked {
     Optimal,
 }
 
+/// One state in so many is dented, and on large sheets about so many in all: at a dent in a chain every state above it is raised too.
+const ONE_DENT_IN: usize = 60;
+const MOST_DENTS: usize = 20;
+
 /// From the last state backwards: a value up to what its successors' values allow, then perhaps a mark.
 pub fn fill(draft: &mut Draft, rng: &mut Rng, worked: Worked) {
     if let Worked::Blank = worked {
         return;
     }
     let marked_in_eight = rng.pick(&[0, 4, 7, 8]);
+    let one_dent_in = ONE_DENT_IN.max(draft.states.len() / MOST_DENTS);
     for state in (0..draft.states.len()).rev() {
         let top = draft.top(state);
-        draft.states[state].value = value(rng, worked, top);
+        draft.states[state].value = value(rng, worked, top, one_dent_in);
         if rng.below(8) < marked_in_eight {
             mark(draft, rng, state);
         }
     }
 }
 
-fn value(rng: &mut Rng, worked: Worked, top: u32) -> u32 {
+fn value(rng: &mut Rng, worked: Worked, top: u32, one_dent_in: usize) -> u32 {
     let below = match worked {
         Worked::Blank => top,
         Worked::Low => rng.below(top as usize + 1) as u32,
         Worked::Near => rng.pick(&[0, 0, 0, 1, 2, 10]),
-        Worked::Dented if rng.one_in(60) => rng.below(4) as u32,
+        Worked::Dented if rng.one_in(one_dent_in) => rng.below(4) as u32,
         Worked::Dented => 0,
         Worked::Optimal => 0,
     };

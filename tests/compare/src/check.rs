@@ -1,7 +1,8 @@
 //! One case: a sheet and a list of calls, put to the library and to the two other programs.
 
-use crate::calls::Call;
+use crate::calls::{Call, ENTRY_BYTES, FORMER_TABLE_BYTES, TABLE_BYTES};
 use crate::coverage::Coverage;
+use crate::draft::{FEW_STATES, FORMER_MOST, MOST_STATES};
 use crate::lent::Lent;
 use sweep::{Node, Sheet, CEILING};
 
@@ -74,7 +75,7 @@ fn number64(bytes: &[u8], at: usize) -> u64 {
 
 /// The refusal again, by the other reader of bytes.
 fn refusal_by_sweep(bytes: &[u8], call: &Call, number: u32) -> Result<(), String> {
-    let expected = if call.result.len() < 24 || call.table.len() < 4096 {
+    let expected = if call.result.len() < 24 || call.table.len() < TABLE_BYTES {
         1
     } else {
         match sweep::read(bytes) {
@@ -160,7 +161,9 @@ fn count(call: &Call, answer: &Answer, before: &[u8], stopped_before: bool, seen
     seen.saw_if(answer.raises > 65_536, "more than 65,536 raises in one call");
     seen.saw_if(stopped_before && unrefused, "carried on");
     seen.saw_if(unrefused && call.budget == u64::MAX, "largest budget");
-    seen.saw_if(answer.number != 1 && call.table.len() >= 4100, "table longer than 1,024 entries");
+    seen.saw_if(answer.number != 1 && call.table.len() >= TABLE_BYTES + ENTRY_BYTES, "table longer than 4,096 entries");
+    let for_the_table = answer.number == 1 && call.result.len() >= 24;
+    seen.saw_if(for_the_table && call.table.len() >= FORMER_TABLE_BYTES, "table of 1,024 to 4,095 entries refused");
     seen.saw_if(answer.number != 1 && call.table.len() % 4 != 0, "bytes left over behind the table");
     seen.saw_if(call.result.len() < 24, "result shorter than 24");
     seen.saw_if(answer.number != 1 && call.result.len() > 24, "result longer than 24");
@@ -172,12 +175,19 @@ fn count_sheet(outset: &[u8], first: &Sheet, last: &Sheet, seen: &mut Coverage) 
     let touched = first.cells.iter().any(|cell| cell.value > 0 || cell.mark == 1);
     seen.saw_if(outset.len() == 20, "20 bytes");
     seen.saw_if(outset.len() == 60_000, "60,000 bytes");
-    seen.saw_if(states == 1024, "1,024 states");
+    seen.saw_if(states == FEW_STATES, "256 states");
+    seen.saw_if(states == FEW_STATES + 1, "257 states");
+    seen.saw_if(states == FORMER_MOST, "1,024 states");
+    seen.saw_if(FORMER_MOST < states && states < MOST_STATES, "1,025 to 4,095 states");
+    seen.saw_if(states == MOST_STATES, "4,096 states");
+    seen.saw_if(states == MOST_STATES && outset.len() == 60_000, "4,096 states and 60,000 bytes");
     seen.saw_if(first.start > 0, "start is not 0");
     seen.saw_if(first.solved(first.start), "settled at the outset");
     seen.saw_if(touched && !first.solved(first.start), "partly worked at the outset");
-    let settled = last.solved(last.start) && !first.solved(first.start);
-    seen.saw_if(settled && last.plan_states().len() > 1000, "chain of 1,000 or more worked to its end");
+    seen.saw_if(states == MOST_STATES && settled(first, last, states - 1), "stage 4,095 settled by work");
+    let depth = if settled(first, last, first.start) { depth(last) } else { 0 };
+    seen.saw_if(depth >= 1_000, "chain of 1,000 or more worked to its end");
+    seen.saw_if(depth >= 3_000, "chain of 3,000 or more worked to its end");
     let sums: Vec<u64> = if last.whole { actions(last).map(|a| sum(last, a)).collect() } else { Vec::new() };
     seen.saw_if(sums.iter().any(|&sum| sum > u64::from(u32::MAX)), "sum above 32 bits");
     let wraps = |&sum: &u64| sum > u64::from(u32::MAX) && sum % (1 << 32) < CEILING;
@@ -185,6 +195,24 @@ fn count_sheet(outset: &[u8], first: &Sheet, last: &Sheet, seen: &mut Coverage) 
     seen.saw_if((0..states).any(|s| abandoned(first, last, s)), "chosen check is not the first of its price");
     seen.saw_if(first.nodes.iter().any(|n| matches!(n, Node::Decision(actions) if actions.len() == 16)), "16 checks");
     seen.saw_if(actions(first).any(|a| a.successors.len() == 16), "16 findings");
+}
+
+/// Has work settled a state?
+fn settled(first: &Sheet, last: &Sheet, state: usize) -> bool {
+    last.solved(state) && !first.solved(state)
+}
+
+/// How many junctions stand on the longest run of the written plan.
+fn depth(sheet: &Sheet) -> usize {
+    let mut above = vec![0; sheet.nodes.len()];
+    for state in sheet.plan_states() {
+        if let Node::Decision(actions) = &sheet.nodes[state] {
+            for &successor in &actions[sheet.cells[state].chosen].successors {
+                above[successor] = above[successor].max(above[state] + 1);
+            }
+        }
+    }
+    above.into_iter().max().unwrap_or(0)
 }
 
 fn actions(sheet: &Sheet) -> impl Iterator<Item = &sweep::Action> {
@@ -203,6 +231,5 @@ fn sum(sheet: &Sheet, action: &sweep::Action) -> u64 {
 fn abandoned(first: &Sheet, last: &Sheet, state: usize) -> bool {
     let Node::Decision(actions) = &last.nodes[state] else { return false };
     let cell = &last.cells[state];
-    let worked = last.solved(state) && !first.solved(state);
-    worked && actions[..cell.chosen].iter().any(|a| last.price(a) == cell.value)
+    settled(first, last, state) && actions[..cell.chosen].iter().any(|a| last.price(a) == cell.value)
 }

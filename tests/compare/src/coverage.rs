@@ -3,7 +3,7 @@
 use std::collections::BTreeMap;
 
 /// A long run must have each of these.
-const WANTED: [&str; 36] = [
+const WANTED: [&str; 45] = [
     "refused 1",
     "refused 2",
     "refused 3",
@@ -31,11 +31,20 @@ const WANTED: [&str; 36] = [
     "16 checks",
     "16 findings",
     "chain of 1,000 or more worked to its end",
+    "chain of 3,000 or more worked to its end",
+    "256 states",
+    "257 states",
     "1,024 states",
+    "1,025 to 4,095 states",
+    "4,096 states",
+    "stage 4,095 settled by work",
+    "nothing wrong but 4,097 stages",
     "60,000 bytes",
     "nothing wrong but 60,001 bytes",
+    "4,096 states and 60,000 bytes",
     "20 bytes",
-    "table longer than 1,024 entries",
+    "table of 1,024 to 4,095 entries refused",
+    "table longer than 4,096 entries",
     "bytes left over behind the table",
     "result shorter than 24",
     "result longer than 24",

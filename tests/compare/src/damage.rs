@@ -1,6 +1,6 @@
 //! Damage. Each question is tried on both sides of its boundary, in the draft; then bytes are flipped, cut off and added.
 
-use crate::draft::{Draft, Node};
+use crate::draft::{Draft, Node, FEW_STATES, FORMER_MOST, MOST_STATES};
 use crate::rng::Rng;
 
 /// Damages of a draft, in the order of the questions that they are about. The late ones stand there more than once: they miss often.
@@ -50,7 +50,8 @@ fn kind(draft: &mut Draft, rng: &mut Rng) {
 
 fn count(draft: &mut Draft, rng: &mut Rng) {
     let count = draft.states.len() as u16;
-    draft.count = rng.pick(&[0, 1, count - 1, count + 1, 1024, 1025, u16::MAX]);
+    let [few, former, most] = [FEW_STATES, FORMER_MOST, MOST_STATES].map(|states| states as u16);
+    draft.count = rng.pick(&[0, 1, count - 1, count + 1, few, few + 1, former, former + 1, most, most + 1, u16::MAX]);
 }
 
 fn start(draft: &mut Draft, rng: &mut Rng) {

@@ -31,6 +31,18 @@ pub struct Draft {
 
 pub const CEILING: u64 = 1_000_000_000;
 
+/// The most states of a sheet (S4.3).
+pub const MOST_STATES: usize = 4096;
+
+/// What that limit was in version 1 of the interface.
+pub const FORMER_MOST: usize = 1024;
+
+/// The library works a sheet of no more states than this on a short table of its own.
+pub const FEW_STATES: usize = 256;
+
+pub const HEAD_BYTES: usize = 8;
+pub const TERMINAL_BYTES: usize = 12;
+
 impl Draft {
     /// All states open, with value 0.
     pub fn new(kind: u8, start: usize, nodes: Vec<Node>) -> Draft {
@@ -70,7 +82,7 @@ impl Draft {
 /// The number of bytes that a state's fields take.
 pub fn size(node: &Node) -> usize {
     match node {
-        Node::Terminal(_) => 12,
+        Node::Terminal(_) => TERMINAL_BYTES,
         Node::Decision(actions) => 9 + actions.iter().map(|a| 7 + 2 * a.successors.len()).sum::<usize>(),
     }
 }

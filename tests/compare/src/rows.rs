@@ -1,5 +1,6 @@
 //! The worked examples (S11 of docs/SPEC.md), run through the library and through both programs. The numbers are those of the specification.
 
+use crate::calls::TABLE_BYTES;
 use crate::coverage::Coverage;
 use crate::draft::{Action, Draft, Node};
 use crate::price;
@@ -174,7 +175,7 @@ fn call(name: &str, sheet: &[u8], budget: u64, expected: Expected) -> Result<Vec
     let mut left = Vec::new();
     for (solver, solve) in solvers {
         let mut bytes = sheet.to_vec();
-        let (mut table, mut result) = ([0; 4096], [0; 24]);
+        let (mut table, mut result) = ([0; TABLE_BYTES], [0; 24]);
         let number = solve(&mut bytes, &mut table, budget, &mut result);
         let [price, passes, raises] =
             [0, 8, 16].map(|at| u64::from_le_bytes(result[at..at + 8].try_into().expect("eight bytes")));

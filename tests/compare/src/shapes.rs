@@ -1,12 +1,22 @@
-//! The problems: which states there are and how they hang together. They are good problems, but for a few sheets that are one byte too
-//! long; damage comes later.
+//! The problems: which states there are and how they hang together. They are good problems, but for a few sheets that have one byte or
+//! one state too many; damage comes later.
 
-use crate::draft::{size, Action, Draft, Node};
+use crate::draft::{size, Action, Draft, Node, FEW_STATES, FORMER_MOST, HEAD_BYTES, MOST_STATES, TERMINAL_BYTES};
 use crate::rng::Rng;
 use std::collections::BTreeSet;
 
 /// The largest sheet.
 const FULL: usize = 60_000;
+
+/// The bytes that random states take, at most: less than any wanted size that they are padded to.
+const UNPADDED: usize = 58_000;
+
+/// A junction of a chain, with one check of one finding; and what another check may take there.
+const LINK_BYTES: usize = 18;
+const FORK_BYTES: usize = 11;
+
+/// The most junctions of a chain.
+const DEEPEST: usize = (FULL - HEAD_BYTES - TERMINAL_BYTES) / LINK_BYTES;
 
 /// What is drawn for the states of a random problem.
 struct Spec {
@@ -38,7 +48,7 @@ enum Costs {
 
 type Draw = fn(&mut Rng) -> Draft;
 
-pub const SHAPES: [(&str, Draw); 11] = [
+pub const SHAPES: [(&str, Draw); 12] = [
     ("tiny", tiny),
     ("small", small),
     ("medium", medium),
@@ -50,10 +60,11 @@ pub const SHAPES: [(&str, Draw); 11] = [
     ("abandoned check", abandoned_check),
     ("full size", full_size),
     ("findings of equal value", equal_values),
+    ("many stages", many_stages),
 ];
 
 /// How often each shape is drawn: small ones are quick and have the most to show.
-const WEIGHTS: [usize; 11] = [40, 40, 12, 10, 8, 5, 3, 8, 4, 6, 10];
+const WEIGHTS: [usize; 12] = [40, 40, 12, 10, 8, 5, 3, 8, 4, 6, 10, 6];
 
 /// The number of a shape.
 pub fn draw(rng: &mut Rng) -> usize {
@@ -103,26 +114,29 @@ fn broad(rng: &mut Rng) -> Draft {
 
 /// Each junction leads to the next; some have another check that leads further on.
 fn chain(rng: &mut Rng) -> Draft {
-    let junctions = rng.between(1, 450);
+    let junctions = if rng.one_in(8) { rng.pick(&[FEW_STATES - 1, FEW_STATES]) } else { rng.between(1, 450) };
     let costs = rng.pick(&[Costs::Ties, Costs::Small, Costs::Wide]);
     chain_of(rng, junctions, costs)
 }
 
 fn deep_chain(rng: &mut Rng) -> Draft {
-    let junctions = rng.pick(&[1023, 1023, 1022, 1000]);
+    let junctions = rng.pick(&[DEEPEST, DEEPEST, DEEPEST - 1, 3_000, 2_000, FORMER_MOST - 1, 1_000]);
     let costs = rng.pick(&[Costs::Ties, Costs::Small, Costs::Wide, Costs::Top]);
     chain_of(rng, junctions, costs)
 }
 
+/// Forks are drawn as long as there is room for them.
 fn chain_of(rng: &mut Rng, junctions: usize, costs: Costs) -> Draft {
     let mut nodes = Vec::new();
     let forks = rng.one_in(2);
+    let mut room = FULL - HEAD_BYTES - TERMINAL_BYTES - LINK_BYTES * junctions;
     for number in 0..junctions {
         let next = Action { cost: cost(rng, costs).max(1), successors: vec![number as u16 + 1] };
         let mut actions = vec![next];
-        if forks && rng.one_in(4) {
+        if forks && room >= FORK_BYTES && rng.one_in(4) {
             let place = rng.below(2);
             actions.insert(place, action(rng, number, junctions + 1, 2, 3, costs));
+            room -= FORK_BYTES;
         }
         nodes.push(Node::Decision(actions));
     }
@@ -178,16 +192,44 @@ fn abandoned_check(rng: &mut Rng) -> Draft {
     draft
 }
 
-/// Many states and many bytes: often 1,024 states, often 60,000 bytes to the byte, and now and then one byte more.
+/// Many states and many bytes: often 4,096 states, often 60,000 bytes to the byte, and now and then one byte more.
 fn full_size(rng: &mut Rng) -> Draft {
-    let states = rng.pick(&[1024, 1024, 1000, 700]);
+    let states = rng.pick(&[MOST_STATES, MOST_STATES, MOST_STATES - 1, 2_500, FORMER_MOST + 1, FORMER_MOST, 1_000, 700]);
     let bytes = rng.pick(&[FULL, FULL, FULL - 1, FULL + 1, 59_000]);
-    let reach = rng.pick(&[20, 100, 1024]);
+    let reach = rng.pick(&[20, 100, states]);
     let costs = rng.pick(&[Costs::Ties, Costs::Small, Costs::Steps, Costs::Wide]);
-    let mut draft = random(rng, Spec { states, decisions: 6, actions: 3, successors: 4, reach, costs });
+    let decisions = if states > 2_000 { rng.pick(&[1, 3, 6]) } else { 6 };
+    let mut draft = random(rng, Spec { states, decisions, actions: 3, successors: 4, reach, costs });
     draft.start = 0;
+    start_at_decision(&mut draft);
     pad(rng, &mut draft, bytes, reach, costs);
     draft
+}
+
+/// More states than version 1 of the interface allowed, with few small checks; now and then one state too many.
+fn many_stages(rng: &mut Rng) -> Draft {
+    let some = rng.between(FORMER_MOST + 1, MOST_STATES);
+    let states = rng.pick(&[some, some, some, some, MOST_STATES - 1, MOST_STATES, MOST_STATES, MOST_STATES + 1]);
+    let reach = rng.pick(&[3, 30, 300, states]);
+    let costs = rng.pick(&[Costs::Ties, Costs::Small, Costs::Steps, Costs::Wide, Costs::Top]);
+    let decisions = rng.between(1, 7);
+    let mut draft = random(rng, Spec { states, decisions, actions: 2, successors: 3, reach, costs });
+    start_at_decision(&mut draft);
+    draft
+}
+
+/// The start becomes the next decision behind it, if there is one, and its first check leads to the last state too.
+fn start_at_decision(draft: &mut Draft) {
+    let last = draft.states.len() - 1;
+    for state in usize::from(draft.start)..last {
+        if let Node::Decision(actions) = &mut draft.states[state].node {
+            draft.start = state as u16;
+            let successors = &mut actions[0].successors;
+            successors.retain(|&t| t != last as u16);
+            successors.push(last as u16);
+            return;
+        }
+    }
 }
 
 /// Checks of several findings, of which some share the largest value, wherever they stand.
@@ -205,7 +247,7 @@ fn equal_values(rng: &mut Rng) -> Draft {
 /// Adds checks and findings until the sheet has this many bytes.
 fn pad(rng: &mut Rng, draft: &mut Draft, bytes: usize, reach: usize, costs: Costs) {
     let states = draft.states.len();
-    let mut left = bytes - 8 - draft.states.iter().map(|s| size(&s.node)).sum::<usize>();
+    let mut left = bytes - HEAD_BYTES - draft.states.iter().map(|s| size(&s.node)).sum::<usize>();
     while left > 0 {
         let number = rng.below(states - 20);
         let Node::Decision(actions) = &mut draft.states[number].node else { continue };
@@ -236,18 +278,22 @@ fn widen(action: &mut Action, number: usize, states: usize) -> usize {
     }
 }
 
-/// Random states; the last one is always a terminal.
+/// Random states; the last one is always a terminal, and so are those that come when decisions have taken all the room.
 fn random(rng: &mut Rng, spec: Spec) -> Draft {
     let mut nodes = Vec::new();
+    let mut room = UNPADDED - HEAD_BYTES - TERMINAL_BYTES * spec.states;
+    let largest = 9 + spec.actions * (7 + 2 * spec.successors);
     for number in 0..spec.states {
         let last = number + 1 == spec.states;
-        if last || rng.below(8) >= spec.decisions {
-            nodes.push(Node::Terminal(cost(rng, spec.costs)));
+        let node = if last || room < largest || rng.below(8) >= spec.decisions {
+            Node::Terminal(cost(rng, spec.costs))
         } else {
             let actions = rng.between(1, spec.actions);
             let draw = |_| action(rng, number, spec.states, spec.successors, spec.reach, spec.costs);
-            nodes.push(Node::Decision((0..actions).map(draw).collect()));
-        }
+            Node::Decision((0..actions).map(draw).collect())
+        };
+        room -= size(&node) - TERMINAL_BYTES;
+        nodes.push(node);
     }
     let start = if rng.one_in(4) { rng.below(spec.states) } else { 0 };
     Draft::new(rng.below(2) as u8, start, nodes)

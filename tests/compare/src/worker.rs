@@ -3,6 +3,7 @@
 //! It prints `at ..` before each row or case and `count N NAME` at the end; anything else that it prints is a failure.
 
 use crate::coverage::Coverage;
+use crate::draft::MOST_STATES;
 use crate::{case, check, price, rows};
 use std::process::ExitCode;
 use std::thread;
@@ -54,6 +55,7 @@ fn one(seed: u64, price: Option<&str>, seen: &mut Coverage) -> Result<(), String
     check::run(&case.bytes, &case.calls, seen).map_err(tell)?;
     seen.saw(&format!("shape: {}", case.shape));
     seen.saw_if(!case.damaged && case.bytes.len() == 60_001, "nothing wrong but 60,001 bytes");
+    seen.saw_if(!case.damaged && case.states == MOST_STATES + 1, "nothing wrong but 4,097 stages");
     seen.saw_if(case.damaged && sweep::read(&case.bytes).is_ok(), "accepted although damaged");
     if let (Some(program), Some(worked)) = (price, &case.worked) {
         price::compare(program, &case.bytes, worked, seen).map_err(tell)?;

@@ -3,9 +3,9 @@
 use crate::ldfs::{work, Outcome};
 use crate::questions::accept;
 use crate::reader::store;
-use crate::Sheet;
+use crate::{Sheet, MOST_STATES};
 
-const TABLE_BYTES: usize = 4 * 1024;
+const TABLE_BYTES: usize = 4 * MOST_STATES;
 const RESULT_BYTES: usize = 24;
 
 /// What `ldfs_solve` is to do: returns the refusal number, or 100 settled, 101 over, 102 stopped.

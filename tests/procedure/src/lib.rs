@@ -13,6 +13,9 @@ pub use listing::listing;
 
 pub const CEILING: u64 = 1_000_000_000;
 
+/// The most stages of a sheet (S4.3), and the fewest entries of an index table (S4.1).
+pub(crate) const MOST_STATES: usize = 4096;
+
 /// A check: its cost and its findings.
 pub struct Action {
     pub cost: u64,
@@ -64,10 +67,11 @@ impl Sheet {
     }
 }
 
-/// The worked examples (S11), each with the whole text that `price` prints for it, worked out by hand.
+/// The worked examples (S11), each with the whole text that `price` prints for it, and the largest samples, worked out by hand.
 #[cfg(test)]
 mod tests {
     use super::listing;
+    use std::thread::Builder;
 
     #[test]
     fn sheet_a() {
@@ -111,5 +115,26 @@ mod tests {
         }
         let endings = "stage 1 end value 0\nstage 2 end value 0\nstage 3 end value 0\nstage 4 end value 0\n";
         assert_eq!(listing(&bytes), format!("settled 10 2 1\nstage 0 check 0 value 10 by 1\n{endings}"));
+    }
+
+    /// Worked out in samples/README.md.
+    #[test]
+    fn most_stages() {
+        let expected = "settled 4195 4 5\nstage 0 check 0 value 4195 by 4095\nstage 1 end value 1\nstage 4095 end value 4095\n";
+        assert_eq!(listing(include_bytes!("../../../samples/stages-4096.sheet")), expected);
+        assert_eq!(listing(include_bytes!("../../../samples/stages-4097.sheet")), "refused 3\n");
+    }
+
+    /// Visits go as deep as there are stages.
+    const STACK_BYTES: usize = 16 << 20;
+
+    #[test]
+    fn deepest_chain() {
+        let work = || listing(include_bytes!("../../../samples/deep.sheet"));
+        let worker = Builder::new().stack_size(STACK_BYTES).spawn(work).expect("a thread starts");
+        let text = worker.join().expect("the work ends");
+        assert!(text.starts_with("settled 3332 1 0\nstage 0 check 0 value 3332 by 1\n"));
+        assert!(text.ends_with("stage 3331 check 0 value 1 by 3332\nstage 3332 end value 0\n"));
+        assert_eq!(text.lines().count(), 3334);
     }
 }

@@ -1,7 +1,7 @@
 //! Questions 2 to 8 (S4.2 to S4.8), each put to the whole sheet before the next.
 
 use crate::reader::{has_head, number16, read};
-use crate::{Sheet, State, CEILING};
+use crate::{Sheet, State, CEILING, MOST_STATES};
 
 /// The sheet, or the number of the first question that is answered no.
 pub fn accept(bytes: &[u8]) -> Result<Sheet, u32> {
@@ -12,7 +12,7 @@ pub fn accept(bytes: &[u8]) -> Result<Sheet, u32> {
         return Err(3);
     }
     let count = number16(bytes, 4);
-    if !(1..=1024).contains(&count) || number16(bytes, 6) >= count {
+    if !(1..=MOST_STATES).contains(&count) || number16(bytes, 6) >= count {
         return Err(3);
     }
     let Some(sheet) = read(bytes) else {

@@ -115,9 +115,16 @@ mod tests {
     }
 
     #[test]
+    fn least_costs_of_the_largest_samples() {
+        assert_eq!(least_cost(include_bytes!("../../../samples/stages-4096.sheet")), Ok(4195));
+        assert_eq!(least_cost(include_bytes!("../../../samples/deep.sheet")), Ok(3332));
+    }
+
+    #[test]
     fn refused_samples() {
         assert_eq!(least_cost(include_bytes!("../../../samples/refused-2.sheet")), Err(2));
         assert_eq!(least_cost(include_bytes!("../../../samples/refused-3.sheet")), Err(3));
+        assert_eq!(least_cost(include_bytes!("../../../samples/stages-4097.sheet")), Err(3));
         assert_eq!(least_cost(include_bytes!("../../../samples/refused-4.sheet")), Err(4));
         assert_eq!(least_cost(include_bytes!("../../../samples/refused-5.sheet")), Err(5));
         assert_eq!(least_cost(include_bytes!("../../../samples/refused-6.sheet")), Err(6));

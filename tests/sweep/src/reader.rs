@@ -2,6 +2,9 @@
 
 use crate::{Action, Cell, Node, Sheet, CEILING};
 
+/// The most states of a sheet (S4.3).
+const MOST_STATES: usize = 4096;
+
 /// A question about one state: is it answered yes?
 type Question = fn(&Sheet, usize) -> bool;
 
@@ -40,7 +43,7 @@ fn head(bytes: &[u8]) -> Option<(bool, usize, usize, &[u8])> {
     let [kind @ 0..=1, c1, c0, s1, s0] = content else { return None };
     let count = number(&[*c1, *c0]) as usize;
     let start = number(&[*s1, *s0]) as usize;
-    ((1..=1024).contains(&count) && start < count).then_some((*kind == 1, count, start, rest))
+    ((1..=MOST_STATES).contains(&count) && start < count).then_some((*kind == 1, count, start, rest))
 }
 
 /// Exactly this many states, and nothing behind them.

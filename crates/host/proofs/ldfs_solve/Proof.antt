@@ -1,8 +1,7 @@
--- A result too short, a table too short, and else a call on a table of zeros, whose entries become the host's bytes. A line of code put
--- between two places lengthens the name that is bound for the later one by a `.before`.
+-- A result too short, a table too short, and else the work. A line of code put between two places lengthens the name that is bound for the
+-- later one by a `.before`.
 use native.Mathlib.Omega.{arith}
 use borrow.Author.Needs.{needs}
-use Rattle.model.specs.Limits.{maxStates}
 use Rattle.host.proofs.Hosted.{no-room, short-table, long-table}
 use Rattle.host.proofs.ldfs_solve.Statement.{statement}
 use Rattle.host.proofs.ldfs_solve.Tie as tie
@@ -28,16 +27,10 @@ returns-2 c =
     let a = room .before .before .before .before .args in
     short-table (a .sheet .now) (a .table .now) (a .budget) (a .result .now) (room .if1 .left) (told .before .refusal .result) _
     (told .put-answer .ensures)
-    (short .if2 .taken) (told .before .refusal .ensures)
+    (omega (arith, short .if2 .taken)) (told .before .refusal .ensures)
 
-slice-aggregate-solve-zeroed : tie.Need-slice-aggregate-solve-zeroed
-slice-aggregate-solve-zeroed c = search needs
-
-solve-zeroed-requires : tie.Need-solve-zeroed-requires
-solve-zeroed-requires c κs = search needs
-
-put-table-requires : tie.Need-put-table-requires
-put-table-requires c κs = search needs
+solve-bytes-requires : tie.Need-solve-bytes-requires
+solve-bytes-requires c κs = omega (arith, c .before .before .if2 .left)
 
 put-answer-requires-2 : tie.Need-put-answer-requires-2
 put-answer-requires-2 c κs = search needs
@@ -57,16 +50,13 @@ same-length-4 c = search needs
 returns-3 : tie.Need-returns-3
 returns-3 c =
     let told = c .before .before .before in
-    let put = told .before .before .before .before in
-    let worked = put .before .before .before .before .before .before in
+    let worked = told .before .before .before .before .before .before in
     let long = worked .before .before .before in
     let room = long .before in
     let a = room .before .before .before .before .args in
-    long-table (a .sheet .now) (a .table .now) (a .budget) (a .result .now) (room .if1 .left) (worked .solve-zeroed .result) _
+    long-table (a .sheet .now) (a .table .now) (a .budget) (a .result .now) (room .if1 .left) (worked .solve-bytes .result) _
     (told .put-answer2 .ensures)
-    maxStates (omega arith) (omega (arith, long .if2 .left)) _ (worked .solve-zeroed .last .1 .0) _ _ (worked .solve-zeroed .ensures)
-    (put .put-table .ensures)
-    (c .outcome-number .ensures)
+    (omega (arith, long .if2 .left)) _ _ _ (worked .solve-bytes .ensures) (c .outcome-number .ensures)
 
 pub ldfs-solve-spec : {M : Type 1} → statement M
 ldfs-solve-spec =
@@ -77,9 +67,7 @@ ldfs-solve-spec =
     put-answer-requires
     same-length
     returns-2
-    slice-aggregate-solve-zeroed
-    solve-zeroed-requires
-    put-table-requires
+    solve-bytes-requires
     put-answer-requires-2
     outcome-number-requires
     same-length-2

@@ -1,7 +1,8 @@
 -- The table is cleared, and `solve_zeroed` does the rest. A line of code put between two places lengthens the name that is bound for the
 -- earlier one by a `.before`.
+use native.Mathlib.Omega.{arith}
 use borrow.Author.Needs.{needs}
-use Rattle.ldfs.proofs.Solving.{refused-short, from-zeros}
+use Rattle.ldfs.proofs.Solving.{refused-short, all-from-zeros}
 use Rattle.ldfs.proofs.solve.Statement.{statement}
 use Rattle.ldfs.proofs.solve.Tie as tie
 
@@ -9,7 +10,7 @@ refusal-requires : tie.Need-refusal-requires
 refusal-requires c κs = search needs
 
 returns : tie.Need-returns
-returns c = refused-short _ _ _ (c .before .if1 .taken) _ (c .refusal .ensures)
+returns c = refused-short _ _ _ (omega (arith, c .before .if1 .taken)) _ (c .refusal .ensures)
 
 clear-requires : tie.Need-clear-requires
 clear-requires c κs = search needs
@@ -27,7 +28,8 @@ returns-2 : tie.Need-returns-2
 returns-2 c =
     let worked = c .before .before .before .before in
     let cleared = worked .before .before .before .before .before in
-    from-zeros _ _ _ (cleared .before .before .if1 .left) (rw (cleared .clear .ensures) at (worked .solve-zeroed .ensures))
+    let long = cleared .before .before .if1 .left in
+    all-from-zeros _ _ _ (omega (arith, long)) (rw (cleared .clear .ensures) at (worked .solve-zeroed .ensures))
 
 pub solve-spec : {M : Type 1} → statement M
 solve-spec =

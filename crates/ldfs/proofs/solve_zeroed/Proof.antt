@@ -2,10 +2,9 @@
 -- other by a `.before`.
 use mathlib.Core.Path.{_≡_, sym, _∙_}
 use borrow.Author.Needs.{needs}
-use lib.ListN.{length}
 use Rattle.model.specs.Format.{Bytes}
-use Rattle.model.specs.Questions.{sheetRefusal}
 use Rattle.questions.specs.declared.Verdict.the-variants.{Accepted}
+use Rattle.questions.specs.Put.{servedRefusal}
 use Rattle.questions.specs.Verdicts.{verdict}
 use Rattle.ldfs.proofs.Solving.{refused-by, start-within, workable, no-budget, worked}
 use Rattle.ldfs.proofs.solve_zeroed.Statement.{statement}
@@ -23,7 +22,7 @@ ask-of c = c .before .before .before .before
 
 -- every answer is yes, and the sheet holds bytes
 accepted-at : (c : tie.After-enum-told) →
-    let a = start-of (ask-of c) .args in Accepted ≡ verdict (sheetRefusal (a .sheet .now) (length (a .table .now)))
+    let a = start-of (ask-of c) .args in Accepted ≡ verdict (servedRefusal (a .sheet .now) (a .table .now))
 accepted-at c = sym (c .enum-told .given .1) ∙ ask-of c .ask .ensures .0
 
 bytes-at : (c : tie.After-ask) → Bytes (start-of c .args .sheet .now)

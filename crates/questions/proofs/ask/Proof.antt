@@ -1,15 +1,25 @@
 -- A line of code put behind the questions lengthens `no` or `cleared` of the two answers at the end by a `.before`.
+use native.Mathlib.Omega.{arith}
+use mathlib.Core.Path.{_≡_}
 use borrow.Author.Needs.{needs}
-use Rattle.questions.proofs.Asking.{short-table, accepted-table, refused-table}
+use lib.ListN.{length}
+use Rattle.questions.specs.Put.{servedBy}
+use Rattle.questions.proofs.Asking.{accepted-table, refused-table}
 use Rattle.questions.proofs.ask.Statement.{statement}
 use Rattle.questions.proofs.ask.Tie as tie
 
-returns : tie.Need-returns
-returns c =
-    let (verdict, table, _) = short-table _ _ (c .if1 .taken) in (verdict, table)
+-- the limit, from where the questions have been put
+abbrev served-of : tie.After-first-no → tie.After-served
+served-of c = c .before .before
+
+limit-of : (c : tie.After-first-no) → let s = served-of c in s .served .result ≡ servedBy (length (s .before .before .before .before .args .table .now))
+limit-of c = served-of c .served .ensures
+
+served-requires : tie.Need-served-requires
+served-requires c κs = search needs
 
 first-no-requires : tie.Need-first-no-requires
-first-no-requires c κs = c .before .if1 .left
+first-no-requires c κs = (omega (arith, c .before .served .ensures), omega (arith, c .before .served .ensures))
 
 clear-requires : tie.Need-clear-requires
 clear-requires c κs = search needs
@@ -17,31 +27,31 @@ clear-requires c κs = search needs
 same-length : tie.Need-same-length
 same-length c = search needs
 
-returns-2 : tie.Need-returns-2
-returns-2 c =
+returns : tie.Need-returns
+returns c =
     let no = c .before .before .before in
-    let (is, table) = no .first-no .ensures in
-    accepted-table _ _ (no .before .before .if1 .left) _ is _ (c .if2 .taken) (table (c .if2 .taken))
+    let (is, table) = rw (limit-of no) at (no .first-no .ensures) in
+    accepted-table _ _ _ is _ (c .if1 .taken) (table (c .if1 .taken))
 
 same-length-2 : tie.Need-same-length-2
 same-length-2 c = search needs
 
-returns-3 : tie.Need-returns-3
-returns-3 c =
+returns-2 : tie.Need-returns-2
+returns-2 c =
     let cleared = c .before .before in
     let no = cleared .before .before .before .before .before in
-    let refused = refused-table _ _ (no .before .before .if1 .left) _ (no .first-no .ensures .0) (no .first-no .last .1 .0) _ in
+    let is = rw (limit-of no) at (no .first-no .ensures .0) in
     let long = cleared .before .before .before .before .table .given in
-    refused (cleared .before .before .if2 .left) long (cleared .clear .ensures)
+    refused-table _ _ _ is (no .first-no .last .1 .0) _ (cleared .before .before .if1 .left) long (cleared .clear .ensures)
 
 pub ask-spec : {M : Type 1} → statement M
 ask-spec =
     tie.close
     (tie.spec
-    returns
+    served-requires
     first-no-requires
     clear-requires
     same-length
-    returns-2
+    returns
     same-length-2
-    returns-3)
+    returns-2)

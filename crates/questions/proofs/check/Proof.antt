@@ -1,4 +1,5 @@
 -- A line of code put into the function lengthens one of the three places of the answer at the end by a `.before`.
+use native.Mathlib.Omega.{arith}
 use borrow.Author.Needs.{needs}
 use Rattle.questions.proofs.Asking.{short-table, cleared-table}
 use Rattle.questions.proofs.check.Statement.{statement}
@@ -6,7 +7,7 @@ use Rattle.questions.proofs.check.Tie as tie
 
 returns : tie.Need-returns
 returns c =
-    let (verdict, _, table) = short-table _ _ (c .if1 .taken) in (verdict, table)
+    short-table _ _ (omega (arith, c .if1 .taken))
 
 clear-requires : tie.Need-clear-requires
 clear-requires c κs = search needs
@@ -23,7 +24,7 @@ returns-2 c =
     let cleared = asked .before .before .before .before in
     let long = cleared .before .before in
     let (answer, table) = rw (cleared .clear .ensures) at (asked .ask .ensures) in
-    cleared-table _ _ _ (long .if1 .left) answer table
+    cleared-table _ _ _ (omega (arith, long .if1 .left)) answer table
 
 pub check-spec : {M : Type 1} → statement M
 check-spec = tie.close (tie.spec returns clear-requires ask-requires same-length returns-2)

@@ -26,7 +26,7 @@ abbrev counted-of : tie.After-fields-in-place → tie.After-word-to-index
 counted-of c = c .before .before
 
 -- the head is in place, and n is its number of states
-headed : (c : tie.Then3) → question3 (start-of (sized-of c) .args .sheet .now) ≡ true
+headed : (c : tie.Then3) → let a = start-of (sized-of c) .args in question3 (a .limit) (a .sheet .now) ≡ true
 headed c = sym (c .before .head-in-place .ensures) ∙ c .if3 .taken
 
 counted : (c : tie.After-word-to-index) → c .word-to-index .result ≡ be16 (start-of (sized-of (headed-of c)) .args .sheet .now) 4
@@ -34,7 +34,8 @@ counted c = c .word-to-index .ensures .0 ∙ c .before .get16 .ensures .0
 
 -- the states are in place
 laid : (c : tie.Then4) → let n = counted-of (c .before .before .before) in
-    Laid (start-of (sized-of (headed-of n)) .args .sheet .now) (n .word-to-index .result)
+    let a = start-of (sized-of (headed-of n)) .args in
+    Laid (a .limit) (a .sheet .now) (n .word-to-index .result)
 laid c =
     let stages = c .before .before .before in
     let n = counted-of stages in
@@ -42,6 +43,7 @@ laid c =
     record {
       least = size .before .if1 .left;
       most = size .if2 .left;
+      within = start-of size .pre .1;
       head = headed (headed-of n);
       count = counted n;
       good = sym (stages .fields-in-place .ensures .0) ∙ c .if4 .taken;
@@ -53,11 +55,11 @@ bytes c i = c .before .before .before .shared-slice-known .given i .fits
 
 returns : tie.Need-returns
 returns c =
-    (too-short _ (c .if1 .taken), λ z. absurd (omega arith))
+    (too-short _ _ (c .if1 .taken), λ z. absurd (omega arith))
 
 returns-2 : tie.Need-returns-2
 returns-2 c =
-    (too-long _ (c .before .if1 .left) (c .if2 .taken), λ z. absurd (omega arith))
+    (too-long _ _ (c .before .if1 .left) (c .if2 .taken), λ z. absurd (omega arith))
 
 head-in-place-requires : tie.Need-head-in-place-requires
 head-in-place-requires c κs = omega arith
@@ -73,7 +75,7 @@ fields-in-place-requires c κs =
     let n = c .before in
     let size = sized-of (headed-of n) in
     let h = head-says (start-of size .args .sheet .now) (headed (headed-of n)) in
-    (omega (arith, counted n, h .5, start-of size .pre), omega arith, size .if2 .left)
+    (omega (arith, counted n, h .5, start-of size .pre .0), omega arith, size .if2 .left)
 
 states-no-requires : tie.Need-states-no-requires
 states-no-requires c κs =
@@ -101,13 +103,13 @@ returns-4 c =
     let n = counted-of stages in
     let size = sized-of (headed-of n) in
     let bad = sym (stages .fields-in-place .ensures .0) ∙ c .if4 .left in
-    (no-4 _ (size .before .if1 .left) (size .if2 .left) (headed (headed-of n)) _ (counted n) bad, λ z. absurd (omega arith))
+    (no-4 _ _ (size .before .if1 .left) (size .if2 .left) (headed (headed-of n)) _ (counted n) bad, λ z. absurd (omega arith))
 
 returns-5 : tie.Need-returns-5
 returns-5 c =
     let size = c .before .before in
     let no = sym (c .before .head-in-place .ensures) ∙ c .if3 .left in
-    (no-3 _ (size .before .if1 .left) (size .if2 .left) no, λ z. absurd (omega arith))
+    (no-3 _ _ (size .before .if1 .left) (size .if2 .left) no, λ z. absurd (omega arith))
 
 pub first-no-spec : {M : Type 1} → statement M
 first-no-spec =
