@@ -85,4 +85,5 @@ pub entered-all : (bytes₀ table : List ℕ) (n : ℕ) (bytes : List ℕ) (i : 
     bytes ≡ entryBytes (filledUp table n) ++ drop (4 * n) bytes₀
 entered-all bytes₀ table n bytes i h le =
     let end : i ≡ n = omega (arith, h .upto) in
-    sym (take-append-drop (4 * i) bytes) ∙ rw (h .done, h .rest, end, take-all n (filledUp table n) (omega (arith, filled-count table n (h .fits))))
+    let all = take-all n (filledUp table n) (omega (arith, filled-count table n (h .fits))) in
+    sym (take-append-drop (4 * i) bytes) ∙ rw (h .done, h .rest, end, all)

@@ -32,8 +32,8 @@ pub serves-all : (s t : List ℕ) → maxStates ≤ entries t → Serves (replic
 serves-all s t room = serves-zeros maxStates s t (omega arith) refl room
 
 -- what the work on such a table leaves is what a call with the host's table leaves
-zeros-worked : (s t : List ℕ) (budget m : ℕ) → m ≤ maxStates → question3 m s ≡ question3 maxStates s → maxStates ≤ entries t →
-    {a : Answer} {s′ w t′ : List ℕ} → Filled s (replicate m 0) budget a s′ w →
+zeros-worked : (s t : List ℕ) (budget m : ℕ) → m ≤ maxStates → question3 m s ≡ question3 maxStates s →
+    maxStates ≤ entries t → {a : Answer} {s′ w t′ : List ℕ} → Filled s (replicate m 0) budget a s′ w →
     length w ≡ m → t′ ≡ entryBytes (filledUp w (entries t)) ++ drop (4 * entries t) t → Worked s t budget a s′ t′
 zeros-worked s t budget m most head room f long put =
     let n = entries t in
@@ -74,8 +74,8 @@ module _ (s t : List ℕ) (budget : ℕ) (r : List ℕ) where
         let no : refusal s (entries t) budget ≡ 1 = refused-short s budget (entries t) few in
         rw (le-leb 24 (length r) room, no, lt-leb maxStates (entries t) few) (refl, (refl, (refl, told ∙ rw e)))
 
-    pub long-table : maxStates ≤ entries t → (s′ t′ : List ℕ) (k : ℕ) → Worked s t budget a s′ t′ → k ≡ number (a .outcome) →
-        Hosted s t budget r k s′ t′ r′
+    pub long-table : maxStates ≤ entries t → (s′ t′ : List ℕ) (k : ℕ) → Worked s t budget a s′ t′ →
+        k ≡ number (a .outcome) → Hosted s t budget r k s′ t′ r′
     unfolding hostNumber hostSheet hostTable hostResult
     long-table enough s′ t′ k worked e =
         rw (le-leb 24 (length r) room, le-leb maxStates (entries t) enough, ← worked .answer, ← worked .sheet)

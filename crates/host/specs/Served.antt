@@ -13,8 +13,8 @@ use Rattle.host.specs.Host.{entries, entryBytes}
 abbrev pub fewStates : ℕ
 fewStates = 256
 
--- the table index holds zeros and serves the sheet s: with as many states as it has entries for the limit, question 3 has the answer that it
--- has for every sheet. The host's table t is long enough.
+-- the table index holds zeros and serves the sheet s: with its number of entries for the limit of states, question 3 has the answer that it
+-- has under `maxStates`. The host's table t is long enough.
 pub record Serves (index s t : List ℕ) : Type 0 where
   pub zeros : index ≡ replicate (length index) 0
   pub most : length index ≤ maxStates

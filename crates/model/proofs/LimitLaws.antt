@@ -1,4 +1,4 @@
--- What rests on the limit of stages. The questions under two limits: where the answers to questions 1 and 3 are the same, so is the refusal.
+-- What rests on the limit of stages. The questions under two limits: where questions 1 and 3 are answered alike, the refusal is the same.
 -- And values added up over the stages.
 use Prim.Native.Nat.{ℕ, _*_, _<_, _≤_}
 use mathlib.Core.Path.{_≡_, refl, sym, _∙_}

@@ -30,7 +30,8 @@ index-longer p m n few le =
     rw (append-assoc, replicate-append-replicate, z)
 
 -- where nothing is refused, the stages are within the limit
-few-states : (limit : ℕ) (s : List ℕ) (entries budget : ℕ) → refusalUnder limit s entries budget ≡ 0 → states (problemOf s) ≤ limit
+few-states : (limit : ℕ) (s : List ℕ) (entries budget : ℕ) → refusalUnder limit s entries budget ≡ 0 →
+    states (problemOf s) ≤ limit
 unfolding refusalUnder
 few-states limit s entries budget e =
     omega (arith, states-read s, head-within limit s (none-no (questionsUnder limit s entries budget) refl e .1 .1 .0))

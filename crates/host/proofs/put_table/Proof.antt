@@ -39,7 +39,7 @@ abbrev loop2-of : tie.After-put32-arg2 Inv-loop μ-loop Inv-loop2 μ-loop2 → t
 loop2-of c = c .before .before
 
 loop-holds : tie.Need-loop-holds Inv-loop μ-loop Inv-loop2 μ-loop2
-loop-holds c = (omega arith, entered-none _ _ _ (omega (arith, c .before .before .pre)))
+loop-holds c = (omega arith, entered-none _ _ _ (c .before .before .pre))
 
 mul-put32 : tie.Need-mul-put32 Inv-loop μ-loop Inv-loop2 μ-loop2
 mul-put32 c = omega arith
@@ -97,14 +97,14 @@ loop2-again : tie.Need-loop2-again Inv-loop μ-loop Inv-loop2 μ-loop2
 loop2-again c =
     let put = c .before .before in
     let l = loop2-of (put .before) in
-    let test = put .before .before in
+    let lt = put .before .before .loop2-test .taken in
     let first = first-of l in
     let table = start-of first .args .table .now in
     let past : length table ≤ l .loop2 .i = omega (arith, l .loop2 .inv .0, l .before .loop-test .left) in (
       omega (arith, l .loop2 .inv .0),
       c .before .bytes2 .given ∙ l .loop2 .inv .1,
       λ b e.
-          entered-more b table _ _ _ (l .loop2 .inv .2 b e) (test .loop2-test .taken) (omega (arith, first .loop .inv .1 .long, e .long)) 0
+          entered-more b table _ _ _ (l .loop2 .inv .2 b e) (omega (arith, lt)) (omega (arith, first .loop .inv .1 .long, e .long)) 0
           (sym (List·getD-eq-default table 0 past)) _ (c .before .bytes2 .given) (put .put322 .ensures),
     )
 
@@ -115,7 +115,8 @@ returns : tie.Need-returns Inv-loop μ-loop Inv-loop2 μ-loop2
 returns c =
     let first = first-of (c .before) in
     let a = start-of first .args in
-    entered-all (a .bytes .now) (a .table .now) _ _ _ (c .before .loop2 .inv .2 _ (first .loop .inv .1)) (c .loop2-test .left)
+    let all = c .before .loop2 .inv .2 _ (first .loop .inv .1) in
+    entered-all (a .bytes .now) (a .table .now) _ _ _ all (omega (arith, c .loop2-test .left))
 
 pub put-table-spec : {M : Type 1} → statement M
 put-table-spec =

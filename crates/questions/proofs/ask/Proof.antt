@@ -8,11 +8,15 @@ use Rattle.questions.proofs.Asking.{accepted-table, refused-table}
 use Rattle.questions.proofs.ask.Statement.{statement}
 use Rattle.questions.proofs.ask.Tie as tie
 
--- the limit, from where the questions have been put
+-- the limit, from where the questions have been put, and the call, from the limit
 abbrev served-of : tie.After-first-no → tie.After-served
 served-of c = c .before .before
 
-limit-of : (c : tie.After-first-no) → let s = served-of c in s .served .result ≡ servedBy (length (s .before .before .before .before .args .table .now))
+abbrev start-of : tie.After-served → tie.Start
+start-of c = c .before .before .before .before
+
+limit-of : (c : tie.After-first-no) →
+    let limit = served-of c in limit .served .result ≡ servedBy (length (start-of limit .args .table .now))
 limit-of c = served-of c .served .ensures
 
 served-requires : tie.Need-served-requires

@@ -82,14 +82,16 @@ returns-4 c =
     let tagged = tagged-of (long-of kind) in
     let st = start-of tagged in
     let n = stages .get162 .ensures .0 in
+    let index = as-index .word-to-index .ensures .0 ∙ n in
     let head = head-start (st .args .limit) (st .args .s .now) (st .pre) (tagged .if1 .taken) (five (long-of kind)) (kind .if3 .left) in
-    rw (c .get163 .ensures .0, n) (head (omega (arith, n, as-index .before .if4 .left)) (omega (arith, as-index .word-to-index .ensures .0 ∙ n, c .before .if5 .left)))
+    rw (c .get163 .ensures .0, n) (head (omega (arith, n, as-index .before .if4 .left)) (omega (arith, index, c .before .if5 .left)))
 
 returns-5 : tie.Need-returns-5
 returns-5 c =
     let tagged = c .before .before in
     let st = start-of tagged in
-    head-length (st .args .limit) (st .args .s .now) (st .pre) (tagged .if1 .taken) (λ e. c .if2 .left (c .before .get16 .ensures .0 ∙ e))
+    let length = c .before .get16 .ensures .0 in
+    head-length (st .args .limit) (st .args .s .now) (st .pre) (tagged .if1 .taken) (λ e. c .if2 .left (length ∙ e))
 
 returns-6 : tie.Need-returns-6
 returns-6 c =
