@@ -38,7 +38,7 @@ static const uint8_t sheet_b[] = {
     2, 0, 9, 0, 0, 0, 30, 0, 0, 0, 0, 0,   /* stage 1 */
     2, 0, 9, 0, 0, 0, 50, 0, 0, 0, 0, 0,   /* stage 2 */
 };
-enum { B_KIND = 3, B_STAGES_LOW = 5, B_VALUE_LOW = 14, B_FINDING_LOW = 25, B_ENDING_MARK = 39 };
+enum { B_STAGES_LOW = 5, B_VALUE_LOW = 14, B_FINDING_LOW = 25, B_ENDING_MARK = 39 };
 
 /* Sheet C: one junction, one check (10, findings 1 to 4), endings 10, 40, 40 and 20. */
 static const uint8_t sheet_c[] = {
@@ -50,7 +50,9 @@ static const uint8_t sheet_c[] = {
     2, 0, 9, 0, 0, 0, 40, 0, 0, 0, 0, 0,            /* stage 3 */
     2, 0, 9, 0, 0, 0, 20, 0, 0, 0, 0, 0,            /* stage 4 */
 };
-enum { C_KIND = 3, C_FIRST_ENDING = 32, C_ENDINGS = 4 };
+enum { C_FIRST_ENDING = 32, C_ENDINGS = 4 };
+
+enum { WORST = 0, WHOLE = 1 };
 
 /* Fields of a sheet; the junction has one check of one finding. */
 enum { HEAD_BYTES = 8, ENDING_BYTES = 12, JUNCTION_BYTES = 18 };
@@ -175,28 +177,27 @@ static void sheet_a_in_steps(void)
     expect(number == LDFS_SETTLED && little(result + LDFS_RESULT_PRICE, 8) == 500, "the steps come to the same price");
 }
 
-static void sheet_b_of_both_kinds(void)
+/* A fresh copy of a sheet, of a kind, in one call: settled, with price, passes and raises. */
+static void settles(const char *name, const uint8_t *sheet, size_t length, uint8_t kind, uint64_t price, uint64_t passes, uint64_t raises)
 {
-    uint8_t sheet[sizeof sheet_b];
-    memcpy(sheet, sheet_b, sizeof sheet);
-    solve_expecting("sheet B, worst", sheet, sizeof sheet, UINT64_MAX, LDFS_SETTLED, 150, 4, 5);
-    memcpy(sheet, sheet_b, sizeof sheet);
-    sheet[B_KIND] = 1;
-    solve_expecting("sheet B, whole", sheet, sizeof sheet, UINT64_MAX, LDFS_SETTLED, 180, 4, 5);
+    uint8_t copy[sizeof sheet_c];
+    memcpy(copy, sheet, length);
+    copy[LDFS_HEAD_KIND] = kind;
+    solve_expecting(name, copy, length, UINT64_MAX, LDFS_SETTLED, price, passes, raises);
 }
 
-static void sheet_c_of_both_kinds(void)
+static void sheets_of_both_kinds(void)
 {
-    uint8_t sheet[sizeof sheet_c];
-    memcpy(sheet, sheet_c, sizeof sheet);
-    solve_expecting("sheet C, worst", sheet, sizeof sheet, UINT64_MAX, LDFS_SETTLED, 50, 4, 7);
-    memcpy(sheet, sheet_c, sizeof sheet);
-    sheet[C_KIND] = 1;
-    solve_expecting("sheet C, whole", sheet, sizeof sheet, UINT64_MAX, LDFS_SETTLED, 120, 6, 9);
-    memcpy(sheet, sheet_c, sizeof sheet);
+    settles("sheet B, worst", sheet_b, sizeof sheet_b, WORST, 150, 4, 5);
+    settles("sheet B, whole", sheet_b, sizeof sheet_b, WHOLE, 180, 4, 5);
+    settles("sheet C, worst", sheet_c, sizeof sheet_c, WORST, 50, 4, 7);
+    settles("sheet C, whole", sheet_c, sizeof sheet_c, WHOLE, 120, 6, 9);
+
+    uint8_t free_c[sizeof sheet_c];
+    memcpy(free_c, sheet_c, sizeof sheet_c);
     for (int i = 0; i < C_ENDINGS; i++)
-        put_big(sheet + C_FIRST_ENDING + ENDING_BYTES * i + LDFS_ENDING_COST, 0);
-    solve_expecting("sheet C, every ending's cost 0", sheet, sizeof sheet, UINT64_MAX, LDFS_SETTLED, 10, 2, 1);
+        put_big(free_c + C_FIRST_ENDING + ENDING_BYTES * i + LDFS_ENDING_COST, 0);
+    settles("sheet C, every ending's cost 0", free_c, sizeof free_c, WORST, 10, 2, 1);
 }
 
 /* One ending of cost 70: its one raise is just within a budget of 1. */
@@ -383,8 +384,7 @@ int main(void)
     sheet_a_at_once();
     sheet_a_carried_on();
     sheet_a_in_steps();
-    sheet_b_of_both_kinds();
-    sheet_c_of_both_kinds();
+    sheets_of_both_kinds();
     one_ending();
     chain("chain, ending 999,999", 999999, LDFS_SETTLED, 999999999);
     chain("chain, ending 1,000,000", 1000000, LDFS_OVER, LDFS_CEILING);

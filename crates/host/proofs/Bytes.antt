@@ -8,7 +8,8 @@ use lib.ListN.{length, getD, take, drop, set, replicate, take-append-drop, lengt
 use lib.Seq.{take-all, take-suc, drop-drop, sets-eq}
 use Rattle.layout.specs.Placed.{placed}
 use Rattle.layout.proofs.Placed.{placed-length, placed-before, placed-after, placed-then}
-use Rattle.host.specs.Host.{le32, le64, entryBytes, filledUp}
+use Rattle.host.specs.Host.{le32, le64, entryBytes}
+use Rattle.host.specs.Served.{filledUp}
 
 -- four stores, one after the other, of a number's bytes
 pub stored : (s : List ℕ) (at x a b c d : ℕ) → at + 4 ≤ length s → a ≡ x % 256 → b ≡ x / 256 % 256 →

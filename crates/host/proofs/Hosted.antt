@@ -8,15 +8,15 @@ use lib.ListN.{length, drop, replicate, length-replicate}
 use Rattle.model.specs.declared.Answer.{Answer}
 use Rattle.model.specs.Format.{be16, statesIn}
 use Rattle.model.specs.Limits.{maxStates}
-use Rattle.model.specs.Questions.{question1, question3, firstNo, refusal, refusalUnder}
+use Rattle.model.specs.Questions.{question3, refusal}
 use Rattle.model.specs.Report.{number, refused, onRefusal, answerUnder, bytesUnder}
-use Rattle.model.proofs.LimitLaws.{head-same}
+use Rattle.model.proofs.LimitLaws.{head-same, room-no}
 use Rattle.theory.proofs.Limits.{answer-same, bytes-same, table-longer}
 use Rattle.ldfs.specs.Made.{Filled}
 use Rattle.ldfs.proofs.Solving.{zeros-solved}
-use Rattle.host.specs.Host.{le64, entryBytes, filledUp, entries, hostNumber, hostSheet, hostTable, hostResult}
+use Rattle.host.specs.Host.{le64, entryBytes, entries, hostNumber, hostSheet, hostTable, hostResult}
 use Rattle.host.specs.HostCalls.{Hosted}
-use Rattle.host.specs.Served.{fewStates, Serves, Worked}
+use Rattle.host.specs.Served.{filledUp, fewStates, Serves, Worked}
 
 -- a table of zeros that serves a sheet: one for few states, and one for any sheet
 serves-zeros : (m : ℕ) (s t : List ℕ) → m ≤ maxStates → question3 m s ≡ question3 maxStates s → maxStates ≤ entries t →
@@ -57,10 +57,6 @@ worked-on {index} {s} {t} h budget f long put =
 abbrev Told : List ℕ → Answer → List ℕ
 Told r a = (le64 (a .price) ++ (le64 (a .passes) ++ le64 (a .raises))) ++ drop 24 r
 
-pub refused-short : (s : List ℕ) (budget n : ℕ) → n < maxStates → refusal s n budget ≡ 1
-unfolding refusalUnder firstNo question1
-refused-short s budget n h = rw (lt-leb maxStates n h)
-
 module _ (s t : List ℕ) (budget : ℕ) (r : List ℕ) where
   pub no-room : length r < 24 → Hosted s t budget r 1 s t r
   unfolding hostNumber hostSheet hostTable hostResult
@@ -71,7 +67,7 @@ module _ (s t : List ℕ) (budget : ℕ) (r : List ℕ) where
     unfolding hostNumber hostSheet hostTable hostResult answerUnder bytesUnder onRefusal
     short-table h e =
         let few : entries t < maxStates = omega arith in
-        let no : refusal s (entries t) budget ≡ 1 = refused-short s budget (entries t) few in
+        let no : refusal s (entries t) budget ≡ 1 = room-no maxStates s (entries t) budget few in
         rw (le-leb 24 (length r) room, no, lt-leb maxStates (entries t) few) (refl, (refl, (refl, told ∙ rw e)))
 
     pub long-table : maxStates ≤ entries t → (s′ t′ : List ℕ) (k : ℕ) → Worked s t budget a s′ t′ →

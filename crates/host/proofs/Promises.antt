@@ -11,7 +11,8 @@ use Rattle.model.specs.Format.{Bytes}
 use Rattle.model.specs.Read.{problemOf, cellsOf}
 use Rattle.model.specs.Optimal.{gaps}
 use Rattle.model.specs.Tests.{fork}
-use Rattle.model.specs.Limits.{ceiling, manyRaises}
+use Rattle.model.specs.Limits.{maxStates, ceiling, manyRaises}
+use Rattle.model.proofs.LimitLaws.{room-no}
 use Rattle.model.specs.Report.{answerTo, bytesAfter}
 use Rattle.model.specs.Calls.{Call, callOn, Calls, none as no-call, left, raisesIn, budgetsIn}
 use Rattle.model.specs.Demands.{Accepted, startCell, Demand1, Demand2, Demand3}
@@ -21,7 +22,6 @@ use Rattle.theory.proofs.Promises.{raises-small, still-a-sheet}
 use Rattle.theory.proofs.Demands.{demand1, demand2, demand3, all-raises-few, work-ends, price-small}
 use Rattle.host.specs.Host.{le32, le64, entries, room, hostNumber, hostSheet, hostResult}
 use Rattle.host.specs.HostCalls.{readLe32, readLe64, reported, hostCall, hostEntries, Hosted, HostedAll, none, one}
-use Rattle.host.proofs.Hosted.{refused-short}
 
 -- a number's bytes, read, are the number
 back32 : (x : ℕ) → x < 4294967296 → readLe32 (le32 x) 0 ≡ x
@@ -71,7 +71,7 @@ module _ (s t : List ℕ) (budget : ℕ) (r : List ℕ) {k : ℕ} {s′ t′ r�
           rw (m .0, m .1 .0, m .1 .1 .1, e, back .0, back .1, back .2, budget-given s (entries t) budget)
       go false e =
           rw (m .0, m .1 .0, m .1 .1 .1, e, unreported r 0 e, unreported r 8 e, unreported r 16 e)
-          (sym (call-refused s 0 budget 0 (refused-short s budget 0 (omega arith))))
+          (sym (call-refused s 0 budget 0 (room-no maxStates s 0 budget (omega arith))))
 
   pub host-answers : Demand1 s (hostEntries t r) budget (hostCall budget k s′ r′)
   host-answers = rw hosted-call (demand1 s (hostEntries t r) budget)
@@ -90,7 +90,7 @@ host-calls acc (one {s} {s′} {t′} {r′} {k} {more} t budget r m rest) =
 pub host-keeps : {s : List ℕ} {calls : List Call} → Accepted s → HostedAll s calls → Demand3 s calls
 host-keeps acc made = demand3 acc (host-calls acc made)
 
--- S7.3: they make few raises
+-- S8.8: they make few raises
 pub host-raises-few : {s : List ℕ} {calls : List Call} → Accepted s → HostedAll s calls → raisesIn calls < manyRaises
 host-raises-few acc made = all-raises-few acc (host-calls acc made)
 

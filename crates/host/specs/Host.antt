@@ -1,5 +1,5 @@
 -- S9: what the host's function returns and leaves. The table passes as bytes, four an entry, least significant first (S9.2).
-use Prim.Native.Nat.{ℕ, _-_, _*_, _/_, _%_}
+use Prim.Native.Nat.{ℕ, _*_, _/_, _%_}
 use mathlib.Core.Bool.{Bool}
 use mathlib.Core.List.{List, [], _∷_, _++_}
 use lib.Dec.{leb}
@@ -19,10 +19,6 @@ le64 x = le32 (x % 4294967296) ++ le32 (x / 4294967296)
 unfoldable pub entryBytes : List ℕ → List ℕ
 entryBytes [] = []
 entryBytes (x ∷ xs) = le32 x ++ entryBytes xs
-
--- a table's content filled up with zeros to n entries
-abbrev pub filledUp : List ℕ → ℕ → List ℕ
-filledUp t n = t ++ replicate (n - length t) 0
 
 -- the number of whole entries that a table's bytes hold
 abbrev pub entries : List ℕ → ℕ

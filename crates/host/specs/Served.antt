@@ -1,5 +1,5 @@
 -- What the host's call asks of the index table that it works on, and what such a call gives: for the contracts of private functions.
-use Prim.Native.Nat.{ℕ, _*_, _≤_}
+use Prim.Native.Nat.{ℕ, _-_, _*_, _≤_}
 use mathlib.Core.Path.{_≡_}
 use mathlib.Core.List.{List, _++_}
 use lib.ListN.{length, drop, replicate}
@@ -8,6 +8,10 @@ use Rattle.model.specs.Limits.{maxStates}
 use Rattle.model.specs.Questions.{question3}
 use Rattle.model.specs.Report.{answerTo, bytesAfter, tableAfter}
 use Rattle.host.specs.Host.{entries, entryBytes}
+
+-- a table's content filled up with zeros to n entries
+abbrev pub filledUp : List ℕ → ℕ → List ℕ
+filledUp t n = t ++ replicate (n - length t) 0
 
 -- a sheet of no more states than this has few
 abbrev pub fewStates : ℕ

@@ -6,12 +6,13 @@ use mathlib.Core.List.{List, _∷_, _++_, append-assoc}
 use native.Mathlib.Omega.{arith}
 use native.Mathlib.Nat.{add-zero}
 use lib.Dec.{eqb}
-use borrow.Author.Tests.{eqb-true, leb-true, ltb-true}
+use borrow.Author.Tests.{eqb-true, leb-true}
 use lib.ListN.{length, getD, drop, length-drop, drop-of-length-le}
 use lib.Seq.{drop-drop, drop-cons, getD-drop}
 use Rattle.model.proofs.TestLaws.{also-true, all-true}
+use Rattle.model.proofs.LimitLaws.{head-says}
 use Rattle.model.specs.Problem.{Node, terminal, decision, Cell, cell, cellOf}
-use Rattle.model.specs.Format.{Bytes, be16, be32, headTag, terminalTag, decisionTag, actionTag, headLength, terminalLength}
+use Rattle.model.specs.Format.{Bytes, be16, be32, terminalTag, decisionTag, actionTag, terminalLength}
 use Rattle.model.specs.Format.{minActionLength, maxActionLength}
 use Rattle.model.specs.Format.{decisionLength, successorsBytes, actionBytes, actionsBytes, nodeBytes, nodesBytes, kindByte, write}
 use Rattle.model.specs.Limits.{maxActions, maxStates}
@@ -206,14 +207,6 @@ nodes-written (suc n) r byte good = by-tag (eqb (tag r) terminalTag) refl (nodes
         let past = bytes-drop (actionsLong maxActions (drop 9 r)) (drop 9 r) (bytes-drop 9 r byte) in
         let others = ih (pastActions maxActions (drop 9 r)) past (f .1) in
         rw e (written-cons (decision-same r byte (f .0)) (decision-shaped r byte (f .0)) tt others)
-
--- question 3, in numbers
-pub head-says : {limit : ℕ} (bs : List ℕ) → question3 limit bs ≡ true →
-    (tag bs ≡ headTag) × (be16 bs 1 ≡ headLength) × (8 ≤ length bs) × (getD bs 3 0 ≤ 1) ×
-    (1 ≤ be16 bs 4) × (be16 bs 4 ≤ limit) ×
-    (be16 bs 6 < be16 bs 4)
-unfolding question3
-head-says bs head = omega (arith, eqb-true, leb-true, ltb-true, all-true _ head)
 
 module _ (bs : List ℕ) (byte : Bytes bs) (head : question3 maxStates bs ≡ true) (body : question4 bs ≡ true) where
   body-written : Written (be16 bs 4) (drop 8 bs) (problemOf bs .nodes) (cellsOf bs)

@@ -53,7 +53,7 @@ solved-calls (one t budget m rest) = made-call (length t) budget (solved-call _ 
 pub solve-keeps : {s : List ℕ} {calls : List Call} → Accepted s → SolvedAll s calls → Demand3 s calls
 solve-keeps acc made = demand3 acc (solved-calls made)
 
--- S7.3: they make few raises
+-- S8.8: they make few raises
 pub solve-raises-few : {s : List ℕ} {calls : List Call} → Accepted s → SolvedAll s calls → raisesIn calls < manyRaises
 solve-raises-few acc made = all-raises-few acc (solved-calls made)
 

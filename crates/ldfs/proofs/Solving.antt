@@ -4,7 +4,7 @@ use mathlib.Core.Path.{_≡_, refl, sym, ap, _∙_}
 use mathlib.Core.Bool.{Bool, true, false}
 use mathlib.Core.List.{List, [], _∷_, _++_}
 use native.Mathlib.Omega.{arith}
-use borrow.Author.Tests.{lt-ltb, le-ltb, lt-leb, le-leb}
+use borrow.Author.Tests.{lt-ltb, le-ltb, le-leb}
 use lib.ListN.{length, replicate, length-append, length-drop, length-replicate}
 use Rattle.model.specs.declared.Answer.{Answer}
 use Rattle.model.specs.declared.Outcome.{Outcome}
@@ -14,21 +14,21 @@ use Rattle.model.specs.Problem.{Cell, states, cellOf, valueOf, solved}
 use Rattle.model.specs.Format.{Bytes, be16, offset, write}
 use Rattle.model.specs.Read.{problemOf, cellsOf}
 use Rattle.model.specs.Limits.{ceiling, maxStates}
-use Rattle.model.specs.Questions.{question1, question9, Question, question, checkQuestionsUnder, firstNo}
+use Rattle.model.specs.Questions.{question9, Question, question, checkQuestionsUnder, firstNo}
 use Rattle.model.specs.Questions.{sheetRefusalUnder, refusalUnder}
 use Rattle.model.proofs.QuestionLaws.{AllYes, none-no}
-use Rattle.model.proofs.LimitLaws.{head-within, sheet-raised, yes-accepted, refusals-left, room-yes}
+use Rattle.model.proofs.LimitLaws.{sheet-raised, yes-accepted, refusals-left, room-yes, room-no}
 use Rattle.model.specs.Ldfs.{Search, searchOf, work}
 use Rattle.model.specs.Report.{outcomeOf, cellsAfter, raisesOf, refused, onRefusal, answerUnder, bytesUnder, refusedTable, tableUnder}
-use Rattle.layout.proofs.Index.{states-read, offsets-count}
+use Rattle.layout.proofs.Index.{states-within, offsets-count}
 use Rattle.theory.proofs.Accepted.{asked-problem, asked-cells}
 use Rattle.theory.proofs.Sheets.{Stands, accepted-stands}
 use Rattle.sheet.specs.Sheet.{Within}
 use Rattle.sheet.proofs.Laws.{indexed, nine-room}
 use Rattle.questions.specs.declared.Verdict.the-variants.{Accepted, Refused as RefusedBy}
 use Rattle.questions.specs.Verdicts.{verdict}
-use Rattle.questions.specs.Put.{indexedBefore, servedBy, servedRefusal, askedTable}
-use Rattle.questions.proofs.Asking.{cleared, cleared-zeros, cleared-length, from-cleared, serves-all}
+use Rattle.questions.specs.Table.{indexedBefore, servedBy, servedRefusal, askedTable}
+use Rattle.questions.proofs.Asking.{cleared, cleared-zeros, cleared-length, from-cleared, served-most}
 use Rattle.search.specs.declared.visits.Way.{Way}
 use Rattle.search.specs.declared.visits.Way.the-variants.{Success, Failure, Halt}
 use Rattle.search.specs.declared.passes.Passes.{Passes as PassesMade}
@@ -158,7 +158,7 @@ module _ (s t : List ℕ) (budget : ℕ) where
 
       -- the table is long enough, and as long as it was
       enough : states (problemOf s) ≤ length t
-      enough = omega (arith, states-read s, head-within limit s (yes .1 .1 .0))
+      enough = omega (arith, states-within s (yes .1 .1 .0))
 
       long : length t′ ≡ length t
       long = rw (filled, length-append, offsets-count 8 (problemOf s .nodes), length-drop) (omega (arith, enough))
@@ -184,8 +184,8 @@ module _ (s t : List ℕ) (budget : ℕ) where
 -- From a table that was cleared to any table.
 module _ (s t : List ℕ) (budget : ℕ) where
   pub refused-short : length t < maxStates → (r : Answer) → r ≡ refused budget 1 → Solved s t budget r s t
-  unfolding answerUnder bytesUnder tableUnder refusalUnder firstNo question1 onRefusal refusedTable
-  refused-short h r a = rw (lt-leb maxStates (length t) h) (a, (refl, refl))
+  unfolding answerUnder bytesUnder tableUnder onRefusal refusedTable
+  refused-short h r a = rw (room-no maxStates s (length t) budget h) (a, (refl, refl))
 
   from-zeros : {r : Answer} {s′ t′ : List ℕ} → Filled s (cleared t) budget r s′ t′ →
       SolvedUnder (servedBy (length t)) s t budget r s′ t′
@@ -200,7 +200,7 @@ module _ (s t : List ℕ) (budget : ℕ) where
   -- a table of as many entries as any sheet may have states serves every sheet
   pub all-from-zeros : maxStates ≤ length t → {r : Answer} {s′ t′ : List ℕ} → Filled s (cleared t) budget r s′ t′ →
       Solved s t budget r s′ t′
-  all-from-zeros ge f = rw (serves-all (length t) ge) at (from-zeros f)
+  all-from-zeros ge f = rw (served-most (length t) ge) at (from-zeros f)
 
 -- a table of zeros is one that was cleared, and serves as many states as it has entries
 pub zeros-solved : (s : List ℕ) (budget m : ℕ) → m ≤ maxStates → {r : Answer} {s′ t′ : List ℕ} →

@@ -12,7 +12,7 @@ use Rattle.model.specs.Ldfs.{work}
 use Rattle.model.specs.Limits.{maxStates}
 use Rattle.model.specs.Report.{cellsAfter, finished, onRefusal, refusedTable, answerUnder, bytesUnder, tableUnder}
 use Rattle.model.specs.Calls.{Call, callOf}
-use Rattle.questions.specs.Put.{indexedBefore, servedBy}
+use Rattle.questions.specs.Table.{indexedBefore, servedBy}
 
 -- the bytes s′ and the answer r are the work of a call on the sheet s
 pub record Finished (s s′ : List ℕ) (r : Answer) (budget : ℕ) : Type 0 where

@@ -27,6 +27,6 @@ maxCost = 1000000
 unfoldable pub ceiling : ℕ
 ceiling = 1000000000
 
--- S7.3: all calls on a sheet together make fewer raises than this: as many stages as there may be, times the ceiling, are fewer
+-- S7.3, S8.8: raises are fewer than this: as many stages as there may be, times the ceiling, are fewer
 abbrev pub manyRaises : ℕ
 manyRaises = 2 ^ 42

@@ -25,7 +25,8 @@ use Rattle.sheet.proofs.Laws.{indexed}
 use Rattle.questions.specs.declared.states.Question.the-variants.{Ranges, Findings, Values, Marks}
 use Rattle.questions.specs.declared.Verdict.{Verdict}
 use Rattle.questions.specs.declared.Verdict.the-variants.{Accepted, Refused}
-use Rattle.questions.specs.Put.{passesAt, rangesAt, statesNo, indexedBefore, servedBy, servedRefusal, askedTable}
+use Rattle.questions.specs.Put.{passesAt, rangesAt, statesNo}
+use Rattle.questions.specs.Table.{indexedBefore, servedBy, servedRefusal, askedTable}
 use Rattle.questions.specs.Verdicts.{verdictNumber, verdict}
 
 -- a question answered yes
@@ -181,8 +182,8 @@ module _ (s t : List ℕ) where
   short-table h = rw (lt-leb maxStates (length t) h) (refl, refl)
 
 -- a table of as many entries serves every sheet
-pub serves-all : (n : ℕ) → maxStates ≤ n → servedBy n ≡ maxStates
-serves-all n ge = omega arith
+pub served-most : (n : ℕ) → maxStates ≤ n → servedBy n ≡ maxStates
+served-most n ge = omega arith
 
 -- zeros less the first n are zeros
 zeros-left : (m n : ℕ) → drop {A = ℕ} n (replicate m 0) ≡ replicate (m - n) 0
@@ -210,7 +211,7 @@ pub cleared-table : (s t t″ : List ℕ) {v : Verdict} → maxStates ≤ length
     t″ ≡ askedTable s (cleared t) → (v ≡ verdict (sheetRefusal s (length t))) × (t″ ≡ checkedTable s t)
 unfolding askedTable checkedTable
 cleared-table s t t″ ge answer table =
-    let all = serves-all (length t) ge in
+    let all = served-most (length t) ge in
     let same : servedRefusal s (cleared t) ≡ sheetRefusal s (length t) = rw (cleared-length t, all) in
     let number : (sheetRefusal s (length t) ≡ 0) ⊎ (2 ≤ sheetRefusal s (length t)) =
     rw (← all, refusal-is s t) (first-from 2 (sheetQuestionsUnder (servedBy (length t)) s) refl) in

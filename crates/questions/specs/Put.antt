@@ -1,17 +1,15 @@
 -- Questions 5 to 8 of one state, and what each may suppose of the questions before it.
-use Prim.Native.Nat.{ℕ, _+_, _<_, min}
+use Prim.Native.Nat.{ℕ, _<_}
 use mathlib.Core.Path.{_≡_}
 use mathlib.Core.Bool.{Bool, true}
-use mathlib.Core.List.{List, [], _∷_, _++_}
-use lib.ListN.{length, drop}
+use mathlib.Core.List.{List, [], _∷_}
+use lib.ListN.{length}
 use Rattle.model.specs.Tests.{fork, all}
 use Rattle.model.specs.Problem.{Node, Problem, Cell, states, nodeAt, cellOf, solved}
-use Rattle.model.specs.Format.{headSize, offsetsFrom, actionsOf}
-use Rattle.model.specs.Limits.{maxStates}
-use Rattle.model.specs.Read.{fieldSize, actionFits, problemOf}
+use Rattle.model.specs.Format.{actionsOf}
+use Rattle.model.specs.Read.{fieldSize, actionFits}
 use Rattle.model.specs.Questions.{costsInRange, cellInRange, successorsInOrder, valueUnder, markEarned}
-use Rattle.model.specs.Questions.{question5, question6, stateQuestions, firstNo, sheetRefusalUnder}
-use Rattle.model.specs.Report.{onRefusal, refusedTable}
+use Rattle.model.specs.Questions.{question5, question6, stateQuestions, firstNo}
 use Rattle.questions.specs.declared.states.Question.{Question}
 use Rattle.questions.specs.declared.states.Question.the-variants.{Ranges, Findings, Values, Marks}
 
@@ -48,20 +46,3 @@ statesNo p cells = firstNo (stateQuestions p cells)
 -- the length of an action's field, of the bytes that it begins: 0 where it does not fit
 unfoldable pub fieldLength : List ℕ → ℕ
 fieldLength bs = fork (actionFits bs) (λ _. fieldSize bs) (λ _. 0)
-
--- the table t once the offsets of the states of s are its first entries
-abbrev pub indexedBefore : List ℕ → List ℕ → List ℕ
-indexedBefore s t = offsetsFrom headSize (problemOf s .nodes) ++ drop (states (problemOf s)) t
-
--- the limit of states that a table of so many entries serves: as many states as it has entries, and never more than `maxStates`. With it
--- question 1 is answered yes, and a table of `maxStates` entries or more serves every sheet.
-abbrev pub servedBy : ℕ → ℕ
-servedBy entries = min entries maxStates
-
--- the refusal of the sheet s under the limit that the table t serves
-abbrev pub servedRefusal : List ℕ → List ℕ → ℕ
-servedRefusal s t = sheetRefusalUnder (servedBy (length t)) s (length t)
-
--- the table's content once questions 2 to 8 have been put to the sheet s under that limit, but for the clearing past the last state
-unfoldable pub askedTable : List ℕ → List ℕ → List ℕ
-askedTable s t = onRefusal (servedRefusal s t) (λ _. indexedBefore s t) (refusedTable t)

@@ -1,5 +1,6 @@
 // The index table after a call, for tables of 1,024, 4,095, 4,096 and 4,200 entries that held garbage: 7, 8, 9 and so on.
 use super::cases::lay;
+use super::lines::LARGEST;
 use super::lines::asked;
 use super::lines::number;
 use super::lines::show;
@@ -60,38 +61,57 @@ fn ask_line(label: &[u8], sheet: &[u8], n: usize, table: &mut [u32], first: usiz
     tally(table);
 }
 
-// A line of `solve` with a garbage table and no budget.
-fn work_line(label: &[u8], sheet: &mut [u8], n: usize, table: &mut [u32]) {
+// A line of `solve` with a garbage table and a budget.
+fn work_line(label: &[u8], sheet: &mut [u8], n: usize, table: &mut [u32], budget: u64) {
     spoil(label, table);
-    worked(sheet, n, table, 0);
+    worked(sheet, n, table, budget);
     tally(table);
 }
 
-// A line of `check` on the first `n` bytes of sheet B with a number changed, and a table of `size` entries.
-fn ask_b(label: &[u8], n: usize, at: usize, width: usize, x: u32, size: usize) {
-    let mut sheet = [0u8; 52];
+// A line of `check` on the first `n` bytes of a sheet with a number changed, a table of `size` entries, and its first entries.
+fn ask(
+    label: &[u8],
+    base: &[u8],
+    n: usize,
+    at: usize,
+    width: usize,
+    x: u32,
+    size: usize,
+    first: usize,
+) {
+    let mut sheet = [0u8; 81];
     let mut table = [0u32; LONGEST];
-    lay(&mut sheet, &B, at, width, x);
+    lay(&mut sheet, base, at, width, x);
     if size <= LONGEST {
-        ask_line(label, &sheet, n, &mut table[..size], 0);
+        ask_line(label, &sheet, n, &mut table[..size], first);
     }
 }
 
-// Sheet A by `check`, and by `solve` with no budget: refusal 1 with a table that is too short, else acceptance and refusal 9.
-fn both(size: usize) {
+// A line of `check` on sheet B.
+fn ask_b(label: &[u8], n: usize, at: usize, width: usize, x: u32, size: usize) {
+    ask(label, &B, n, at, width, x, size, 0);
+}
+
+// Sheet A by `solve` with a budget.
+fn work_a(label: &[u8], size: usize, budget: u64) {
     let mut sheet = [0u8; 81];
-    let mut asked = [0u32; LONGEST];
-    let mut worked = [0u32; LONGEST];
+    let mut table = [0u32; LONGEST];
     let n = lay(&mut sheet, &A, 0, 0, 0);
     if size <= LONGEST {
-        ask_line(b"A", &sheet, n, &mut asked[..size], 5);
-        work_line(b"A-budget-0", &mut sheet, n, &mut worked[..size]);
+        work_line(label, &mut sheet, n, &mut table[..size], budget);
     }
+}
+
+// Sheet A: refusal 1 with a table that is too short; else acceptance, refusal 9 with no budget, and settled with the largest.
+fn all_of_a(size: usize) {
+    ask(b"A", &A, 81, 0, 0, 0, size, 5);
+    work_a(b"A-budget-0", size, 0);
+    work_a(b"A-worked", size, LARGEST);
 }
 
 // Acceptance and the refusals 2 to 9 with one table.
 fn each(size: usize) {
-    both(size);
+    all_of_a(size);
     ask_b(b"B-19-bytes", 19, 0, 0, 0, size);
     ask_b(b"B-cut", 51, 0, 0, 0, size);
     ask_b(b"B-kind-2", 52, 3, 1, 2, size);
@@ -104,8 +124,8 @@ fn each(size: usize) {
 // A table that served as long as sheets had at most 1,024 stages, one that is an entry too short, the shortest that serves, and a longer
 // one.
 pub fn entries() {
-    both(1024);
-    both(MAX_STATES - 1);
+    all_of_a(1024);
+    all_of_a(MAX_STATES - 1);
     each(MAX_STATES);
     each(LONGEST);
 }

@@ -19,8 +19,8 @@
 //   raised stage 1 to 400, and 600 is not 500: question 8. Check 2 is out of range: question 5.
 // - `B-settled` has the least costs 150, 30 and 50 of the row B worst. With a finding open again, or at 149, question 8 refuses it.
 // - `-table` lines: the table's entries were 7, 8, 9 and so on. Refusal 1 leaves them (S5.4), 2 to 9 make all of them 0 (S5.5),
-//   past the 4,096th too; accepted, the entries are A's offsets 8, 37, 57, 69, and every entry past the last stage is 0 (S3.5): 4,096 - 4
-//   and 4,200 - 4 of them.
+//   past the 4,096th too; accepted or worked (S11.20), the entries are A's offsets 8, 37, 57, 69, and every entry past the last stage is 0
+//   (S3.5): 4,096 - 4 and 4,200 - 4 of them.
 mod bytes; // bytes.rt: bytes and blocks of bytes in a buffer
 mod fields; // fields.rt: numbers and fields in a buffer
 mod sheets; // sheets.rt: the sheets of the cases, and blocks of larger ones

@@ -58,6 +58,12 @@ fn last_rows() {
     both(b"findings-17", 18, &FINDINGS_17, 1, 17);
 }
 
+// One ending, with as many stages in its head as a sheet may have, and one more.
+fn stage_rows() {
+    work(b"ending-of-4096-stages", &ONE, 4, 2, 4096, LARGEST);
+    work(b"ending-of-4097-stages", &ONE, 4, 2, 4097, LARGEST);
+}
+
 // Sheet C of both kinds, and with every ending's cost 0.
 fn dearest_rows() {
     work(b"C-worst", &C, 0, 0, 0, LARGEST);
@@ -70,5 +76,6 @@ pub fn rows() {
     first_rows();
     refusals();
     last_rows();
+    stage_rows();
     dearest_rows();
 }

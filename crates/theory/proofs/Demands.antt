@@ -208,7 +208,7 @@ was-open {s} {calls} made p cells h t o = go (solved (cellOf cells t)) refl
     go true e = clash (solved-of (d .kept .keeps t e) ∙ e) (rw (stands-cells (left s calls) p (d .last) (d .stands)) at o)
     go false e = refl
 
--- S7.3: whatever their budgets, all calls on an accepted sheet together make few raises
+-- S8.8: whatever their budgets, all calls on an accepted sheet together make few raises
 pub all-raises-few : {s : List ℕ} {calls : List Call} → Accepted s → Calls s calls → raisesIn calls < manyRaises
 all-raises-few {s} acc made = omega (arith, demand3 acc made .raises-within-gaps, gaps-few s acc)
 

@@ -15,8 +15,8 @@ use Rattle.model.specs.Questions.{question1, question3, questionsUnder, refusal
 use Rattle.model.specs.Report.{onRefusal, answerUnder, bytesUnder, indexTable, refusedTable, tableUnder}
 use Rattle.model.specs.Demands.{Raised}
 use Rattle.model.proofs.QuestionLaws.{none-no}
-use Rattle.model.proofs.LimitLaws.{head-within, head-raised, sheet-raised, accepted-yes, yes-accepted, refusal-same, room-yes}
-use Rattle.layout.proofs.Index.{states-read}
+use Rattle.model.proofs.LimitLaws.{head-raised, sheet-raised, accepted-yes, yes-accepted, refusal-same, room-yes}
+use Rattle.layout.proofs.Index.{states-within}
 
 -- zeros, and zeros behind them
 zeros-longer : (m n : ℕ) → m ≤ n → replicate {A = ℕ} n 0 ≡ replicate m 0 ++ replicate (n - m) 0
@@ -34,7 +34,7 @@ few-states : (limit : ℕ) (s : List ℕ) (entries budget : ℕ) → refusalUnde
     states (problemOf s) ≤ limit
 unfolding refusalUnder
 few-states limit s entries budget e =
-    omega (arith, states-read s, head-within limit s (none-no (questionsUnder limit s entries budget) refl e .1 .1 .0))
+    states-within s (none-no (questionsUnder limit s entries budget) refl e .1 .1 .0)
 
 -- Two limits, each with a table that question 1 does not refuse, of a sheet for which question 3 has the same answer.
 module _ (a b : ℕ) (s : List ℕ) (three : question3 a s ≡ question3 b s) where

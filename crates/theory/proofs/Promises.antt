@@ -1,5 +1,5 @@
 -- What holds of every accepted sheet, and of a call on it: what docs/PROMISES.md lists beside the demands.
-use Prim.Native.Nat.{ℕ, zero, suc, _+_, _<_, _≤_}
+use Prim.Native.Nat.{ℕ, zero, suc, _+_, _*_, _<_, _≤_}
 use mathlib.Core.Path.{_≡_, refl}
 use mathlib.Core.Bool.{true}
 use mathlib.Core.List.{List}
@@ -88,12 +88,12 @@ module _ (s : List ℕ) (acc : Accepted s) where
   dearest-of t i acts e l v =
       let is = action-dearest (problemOf s) wf t i acts e l v in (is, dearest-only v is)
 
-  -- 5: gaps are few, and with them the raises of all calls
+  -- 5: gaps, and with them the raises of all calls, are no more than there are states, times the ceiling, and so few
+  pub gaps-within : gaps (problemOf s) (cellsOf s) ≤ states (problemOf s) * ceiling
+  gaps-within = sum-bounded (gap (problemOf s) (cellsOf s)) ceiling (λ t. omega arith) (states (problemOf s))
+
   pub gaps-few : gaps (problemOf s) (cellsOf s) < manyRaises
-  gaps-few =
-      let n = states (problemOf s) in
-      let bound = sum-bounded (gap (problemOf s) (cellsOf s)) ceiling (λ t. omega arith) n in
-      omega (arith, values-few n (stands .asked .shaped .most), bound)
+  gaps-few = omega (arith, gaps-within, values-few (states (problemOf s)) (stands .asked .shaped .most))
 
   -- One call, with any number of table entries and any budget.
   module _ (entries budget : ℕ) where

@@ -89,28 +89,17 @@ fn bad_cost_and_cut() -> Vec<u8> {
 /// The costs of the endings of sheet C.
 const COSTS_OF_C: [u32; 4] = [10, 40, 40, 20];
 
-/// What `price` prints, whole.
+/// What `price` prints for A, whole, and behind the line of stage 0 for C.
 const LINES_OF_A: &str = "settled 500 3 3
 stage 0 check 1 value 500 by 3
 stage 3 end value 0
 ";
-const LINES_OF_C_WORST: &str = "settled 50 4 7
-stage 0 check 0 value 50 by 2
-stage 1 end value 10
+const ENDINGS_OF_C: &str = "stage 1 end value 10
 stage 2 end value 40
 stage 3 end value 40
 stage 4 end value 20
 ";
-const LINES_OF_C_WHOLE: &str = "settled 120 6 9
-stage 0 check 0 value 120 by 2
-stage 1 end value 10
-stage 2 end value 40
-stage 3 end value 40
-stage 4 end value 20
-";
-const LINES_OF_C_WITHOUT_COSTS: &str = "settled 10 2 1
-stage 0 check 0 value 10 by 1
-stage 1 end value 0
+const ENDINGS_WITHOUT_COSTS: &str = "stage 1 end value 0
 stage 2 end value 0
 stage 3 end value 0
 stage 4 end value 0
@@ -156,14 +145,14 @@ pub fn run(price: Option<&str>) -> Result<Coverage, String> {
 
 fn printed(program: &str) -> Result<(), String> {
     let texts = [
-        ("A", sheet_a(), LINES_OF_A),
-        ("C worst", sheet_c(0, COSTS_OF_C), LINES_OF_C_WORST),
-        ("C whole", sheet_c(1, COSTS_OF_C), LINES_OF_C_WHOLE),
-        ("C with every ending's cost 0", sheet_c(0, [0; 4]), LINES_OF_C_WITHOUT_COSTS),
+        ("A", sheet_a(), LINES_OF_A, ""),
+        ("C worst", sheet_c(0, COSTS_OF_C), "settled 50 4 7\nstage 0 check 0 value 50 by 2\n", ENDINGS_OF_C),
+        ("C whole", sheet_c(1, COSTS_OF_C), "settled 120 6 9\nstage 0 check 0 value 120 by 2\n", ENDINGS_OF_C),
+        ("C with every ending's cost 0", sheet_c(0, [0; 4]), "settled 10 2 1\nstage 0 check 0 value 10 by 1\n", ENDINGS_WITHOUT_COSTS),
     ];
-    for (name, draft, lines) in texts {
+    for (name, draft, first, endings) in texts {
         println!("at row '{name}', printed");
-        price::expect(program, &draft.bytes(), lines)?;
+        price::expect(program, &draft.bytes(), &format!("{first}{endings}"))?;
     }
     Ok(())
 }

@@ -4,7 +4,7 @@ use mathlib.Core.Path.{_≡_, sym, _∙_}
 use borrow.Author.Needs.{needs}
 use Rattle.model.specs.Format.{Bytes}
 use Rattle.questions.specs.declared.Verdict.the-variants.{Accepted}
-use Rattle.questions.specs.Put.{servedRefusal}
+use Rattle.questions.specs.Table.{servedRefusal}
 use Rattle.questions.specs.Verdicts.{verdict}
 use Rattle.ldfs.proofs.Solving.{refused-by, start-within, workable, no-budget, worked}
 use Rattle.ldfs.proofs.solve_zeroed.Statement.{statement}
