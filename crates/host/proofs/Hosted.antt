@@ -10,7 +10,8 @@ use Rattle.model.specs.Format.{be16, statesIn}
 use Rattle.model.specs.Limits.{maxStates}
 use Rattle.model.specs.Questions.{question3, refusal}
 use Rattle.model.specs.Report.{number, refused, onRefusal, answerUnder, bytesUnder}
-use Rattle.model.proofs.LimitLaws.{head-same, room-no}
+use Rattle.layout.proofs.Heads.{head-same}
+use Rattle.theory.proofs.LimitLaws.{room-no}
 use Rattle.theory.proofs.Limits.{answer-same, bytes-same, table-longer}
 use Rattle.ldfs.specs.Made.{Filled}
 use Rattle.ldfs.proofs.Solving.{zeros-solved}

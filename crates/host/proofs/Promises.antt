@@ -12,11 +12,11 @@ use Rattle.model.specs.Read.{problemOf, cellsOf}
 use Rattle.model.specs.Optimal.{gaps}
 use Rattle.model.specs.Tests.{fork}
 use Rattle.model.specs.Limits.{maxStates, ceiling, manyRaises}
-use Rattle.model.proofs.LimitLaws.{room-no}
 use Rattle.model.specs.Report.{answerTo, bytesAfter}
 use Rattle.model.specs.Calls.{Call, callOn, Calls, none as no-call, left, raisesIn, budgetsIn}
 use Rattle.model.specs.Demands.{Accepted, startCell, Demand1, Demand2, Demand3}
 use Rattle.layout.proofs.Bytes.{four}
+use Rattle.theory.proofs.LimitLaws.{room-no}
 use Rattle.theory.proofs.Called.{budget-given, call-refused, made-call}
 use Rattle.theory.proofs.Promises.{raises-small, still-a-sheet}
 use Rattle.theory.proofs.Demands.{demand1, demand2, demand3, all-raises-few, work-ends, price-small}

@@ -10,7 +10,6 @@ use borrow.Author.Tests.{eqb-true, leb-true}
 use lib.ListN.{length, getD, drop, length-drop, drop-of-length-le}
 use lib.Seq.{drop-drop, drop-cons, getD-drop}
 use Rattle.model.proofs.TestLaws.{also-true, all-true}
-use Rattle.model.proofs.LimitLaws.{head-says}
 use Rattle.model.specs.Problem.{Node, terminal, decision, Cell, cell, cellOf}
 use Rattle.model.specs.Format.{Bytes, be16, be32, terminalTag, decisionTag, actionTag, terminalLength}
 use Rattle.model.specs.Format.{minActionLength, maxActionLength}
@@ -20,6 +19,7 @@ use Rattle.model.specs.Read.{tag, actionFits, successorsRead, actionRead, actio
 use Rattle.model.specs.Read.{pastActions, terminalFits, headerFits, decisionFits, nodesGood, nodesRead, cellsRead, kindOf}
 use Rattle.model.specs.Read.{problemOf, cellsOf}
 use Rattle.model.specs.Questions.{question3, question4}
+use Rattle.layout.proofs.Heads.{head-says}
 use Rattle.layout.specs.Shape.{FewSuccessors, ActionsShaped, NodeShaped, NodesShaped, ChosenShaped, Shaped}
 
 bytes-drop : (k : ℕ) (bs : List ℕ) → Bytes bs → Bytes (drop k bs)

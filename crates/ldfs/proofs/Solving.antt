@@ -17,10 +17,10 @@ use Rattle.model.specs.Limits.{ceiling, maxStates}
 use Rattle.model.specs.Questions.{question9, Question, question, checkQuestionsUnder, firstNo}
 use Rattle.model.specs.Questions.{sheetRefusalUnder, refusalUnder}
 use Rattle.model.proofs.QuestionLaws.{AllYes, none-no}
-use Rattle.model.proofs.LimitLaws.{sheet-raised, yes-accepted, refusals-left, room-yes, room-no}
 use Rattle.model.specs.Ldfs.{Search, searchOf, work}
 use Rattle.model.specs.Report.{outcomeOf, cellsAfter, raisesOf, refused, onRefusal, answerUnder, bytesUnder, refusedTable, tableUnder}
 use Rattle.layout.proofs.Index.{states-within, offsets-count}
+use Rattle.theory.proofs.LimitLaws.{sheet-raised, yes-accepted, refusals-left, room-yes, room-no}
 use Rattle.theory.proofs.Accepted.{asked-problem, asked-cells}
 use Rattle.theory.proofs.Sheets.{Stands, accepted-stands}
 use Rattle.sheet.specs.Sheet.{Within}

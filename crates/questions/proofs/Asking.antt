@@ -16,8 +16,8 @@ use Rattle.model.specs.Questions.{question1, question2, question3, question4}
 use Rattle.model.specs.Questions.{question5, question6, question7, question8, Question, question, sheetQuestionsUnder, firstNo}
 use Rattle.model.specs.Questions.{sheetRefusal, sheetRefusalUnder}
 use Rattle.model.proofs.QuestionLaws.{first-from}
-use Rattle.model.proofs.LimitLaws.{head-raised}
 use Rattle.model.specs.Report.{onRefusal, indexTable, refusedTable, checkedTable}
+use Rattle.layout.proofs.Heads.{head-raised}
 use Rattle.layout.proofs.Same.{read-writes, read-shaped}
 use Rattle.layout.proofs.Index.{states-read}
 use Rattle.sheet.specs.Sheet.{Within}

@@ -6,10 +6,10 @@ use native.Mathlib.Omega.{arith}
 use native.Mathlib.Numerals.{add-one}
 use Rattle.model.specs.Problem.{Problem, states}
 use Rattle.model.specs.Read.{cellsOf}
-use Rattle.model.proofs.LimitLaws.{values-few}
 use Rattle.model.specs.Ldfs.{work}
 use Rattle.sheet.specs.Sheet.{Sheet}
 use Rattle.theory.specs.Consistent.{WellFormed, Consistent}
+use Rattle.theory.proofs.LimitLaws.{values-few}
 use Rattle.theory.proofs.Leads.{Leads, stay, then}
 use Rattle.theory.proofs.Work.{leads-bounded}
 use Rattle.theory.proofs.Turns.{passesFrom, pass-succeeds, pass-fails, pass-halts}

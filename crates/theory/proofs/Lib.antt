@@ -10,6 +10,7 @@ pub mod Visits
 pub mod Work
 pub mod Accepted
 pub mod Refusals
+pub mod LimitLaws
 pub mod Sheets
 pub mod Limits
 pub mod Called

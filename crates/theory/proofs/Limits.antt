@@ -15,8 +15,9 @@ use Rattle.model.specs.Questions.{question1, question3, questionsUnder, refusal
 use Rattle.model.specs.Report.{onRefusal, answerUnder, bytesUnder, indexTable, refusedTable, tableUnder}
 use Rattle.model.specs.Demands.{Raised}
 use Rattle.model.proofs.QuestionLaws.{none-no}
-use Rattle.model.proofs.LimitLaws.{head-raised, sheet-raised, accepted-yes, yes-accepted, refusal-same, room-yes}
+use Rattle.layout.proofs.Heads.{head-raised}
 use Rattle.layout.proofs.Index.{states-within}
+use Rattle.theory.proofs.LimitLaws.{sheet-raised, accepted-yes, yes-accepted, refusal-same, room-yes}
 
 -- zeros, and zeros behind them
 zeros-longer : (m n : ℕ) → m ≤ n → replicate {A = ℕ} n 0 ≡ replicate m 0 ++ replicate (n - m) 0

@@ -9,7 +9,6 @@ use Rattle.model.specs.Problem.{Action, decision, Problem, Cell, states, nodeAt
 use Rattle.model.specs.Format.{Bytes}
 use Rattle.model.specs.Read.{problemOf, cellsOf}
 use Rattle.model.specs.Limits.{ceiling, manyRaises}
-use Rattle.model.proofs.LimitLaws.{values-few}
 use Rattle.model.specs.QValue.{cut, dearest, Dearest}
 use Rattle.model.specs.Questions.{refusal}
 use Rattle.model.specs.Optimal.{bellman, bellmanCut, optimal, sumBelow, gap, gaps}
@@ -18,6 +17,7 @@ use Rattle.model.specs.Report.{answerTo, bytesAfter}
 use Rattle.model.specs.Demands.{Accepted}
 use Rattle.theory.specs.Consistent.{WellFormed, Consistent}
 use Rattle.theory.proofs.Basics.{sum-gap, sum-bounded}
+use Rattle.theory.proofs.LimitLaws.{values-few}
 use Rattle.theory.proofs.DearestLaws.{action-dearest, dearest-only}
 use Rattle.theory.proofs.Bellman.{optimal-solves, optimal-only, optimal-cut}
 use Rattle.theory.proofs.PolicyLaws.{optimal-least, greedy, greedy-closed, greedy-attains}

@@ -6,7 +6,7 @@ use native.Mathlib.Omega.{arith}
 use borrow.Author.Needs.{needs}
 use Rattle.model.specs.Format.{Bytes, be16}
 use Rattle.model.specs.Questions.{question3}
-use Rattle.model.proofs.LimitLaws.{head-says}
+use Rattle.layout.proofs.Heads.{head-says}
 use Rattle.questions.proofs.Asking.{Laid, too-short, too-long, no-3, no-4, then-states, states-are, zero-within, table-is}
 use Rattle.questions.proofs.first_no.Statement.{statement}
 use Rattle.questions.proofs.first_no.Tie as tie

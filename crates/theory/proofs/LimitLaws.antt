@@ -1,40 +1,19 @@
 -- What rests on the limit of stages. The questions under two limits: where questions 1 and 3 are answered alike, the refusal is the same.
 -- And values added up over the stages.
 use Prim.Native.Nat.{ℕ, _*_, _<_, _≤_}
-use mathlib.Core.Path.{_≡_, refl, sym, _∙_}
+use mathlib.Core.Path.{_≡_, refl}
 use mathlib.Core.Bool.{true}
 use mathlib.Core.Logic.{_⊎_}
 use mathlib.Core.List.{List, [], _∷_, _++_}
 use native.Mathlib.Omega.{arith}
-use borrow.Author.Tests.{le-leb, lt-leb, leb-true, ltb-true, eq-eqb, eqb-true}
-use lib.ListN.{length, getD}
+use borrow.Author.Tests.{le-leb, lt-leb, eq-eqb, eqb-true}
 use Rattle.model.specs.Tests.{fork}
 use Rattle.model.specs.Limits.{maxStates, ceiling, manyRaises}
-use Rattle.model.specs.Format.{be16, headTag, headLength, statesIn}
-use Rattle.model.specs.Read.{tag}
-use Rattle.model.specs.Questions.{question1, question3, question9, question, sheetQuestionsUnder, firstNo, refusalUnder}
-use Rattle.model.specs.Questions.{acceptedUnder}
-use Rattle.model.proofs.TestLaws.{all-true}
+use Rattle.model.specs.Questions.{question1, question3, question9, question, sheetQuestionsUnder, firstNo, refusalUnder, acceptedUnder}
 use Rattle.model.proofs.QuestionLaws.{AllYes, none-no, all-yes, first-from}
+use Rattle.layout.proofs.Heads.{head-raised}
 
--- question 3 under a limit, in numbers
-pub head-says : {limit : ℕ} (s : List ℕ) → question3 limit s ≡ true →
-    (tag s ≡ headTag) × (be16 s 1 ≡ headLength) × (8 ≤ length s) × (getD s 3 0 ≤ 1) ×
-    (1 ≤ be16 s 4) × (be16 s 4 ≤ limit) ×
-    (be16 s 6 < be16 s 4)
-unfolding question3
-head-says s head = omega (arith, eqb-true, leb-true, ltb-true, all-true _ head)
-
--- limits that the number of stages is within give question 3 the same answer
-pub head-same : (a b : ℕ) (s : List ℕ) → be16 s statesIn ≤ a → be16 s statesIn ≤ b → question3 a s ≡ question3 b s
-unfolding question3
-head-same a b s le le′ = rw (le-leb (be16 s statesIn) a le, le-leb (be16 s statesIn) b le′)
-
--- a larger limit takes what a smaller one takes
-pub head-raised : {small large : ℕ} → small ≤ large → (s : List ℕ) → question3 small s ≡ true → question3 large s ≡ true
-head-raised {small} {large} le s h =
-    let few = head-says s h .5 in sym (head-same small large s few (omega arith)) ∙ h
-
+-- a larger limit accepts what a smaller one accepts
 pub sheet-raised : {small large : ℕ} → small ≤ large → (s : List ℕ) →
     AllYes (sheetQuestionsUnder small s) → AllYes (sheetQuestionsUnder large s)
 sheet-raised le s (two, (three, more)) = (two, (head-raised le s three, more))
