@@ -38,7 +38,7 @@ static const char *const refusals[] = {
     "the head is damaged, or names a kind, a number of stages or a start that cannot be",
     "a field is out of place, missing or left over",
     "a cost, a value, a mark or a chosen check is out of its range",
-    "a check's findings do not ascend, or lead back, or lead to no stage",
+    "a check's findings do not ascend (strictly, on a worst sheet), or lead back, or lead to no stage",
     "a value is above its ending's cost, or above the price of one of its junction's checks",
     "a stage is marked settled and cannot be",
     "the sheet is valid, and the budget is 0",
@@ -118,7 +118,8 @@ static uint32_t value_of(uint32_t stage)
     return big(field + (field[0] == LDFS_ENDING_TAG ? LDFS_ENDING_VALUE : LDFS_JUNCTION_VALUE), 4);
 }
 
-/* The dearest finding of a check: the lowest-numbered of those whose value is largest. Findings ascend, so it is the first of them. */
+/* The dearest finding of a check: the lowest-numbered of those whose value is largest. Findings ascend (on a whole sheet equal ones may
+   stand side by side), so it is the first of them. */
 static uint32_t dearest(const uint8_t *check)
 {
     uint32_t by = big(check + LDFS_CHECK_FINDINGS, 2);
@@ -129,7 +130,8 @@ static uint32_t dearest(const uint8_t *check)
 }
 
 /* The plan of a settled sheet: the stages that it reaches from the start, ascending, and at each junction the dearest finding. Findings
-   lead to stages of higher numbers, so one walk upwards meets each stage after all that lead to it. */
+   lead to stages of higher numbers, so one walk upwards meets each stage after all that lead to it, and once, however often a check of a
+   whole sheet lists it. */
 static void print_plan(void)
 {
     unsigned char reached[LDFS_STAGES_MOST] = {0};

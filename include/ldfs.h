@@ -25,9 +25,9 @@
  * or a stored sheet of before would no longer do, MINOR where something is added, PATCH where neither. A sheet's bytes hold no version.
  */
 #define LDFS_VERSION_MAJOR 2
-#define LDFS_VERSION_MINOR 0
+#define LDFS_VERSION_MINOR 1
 #define LDFS_VERSION_PATCH 0
-#define LDFS_VERSION "2.0.0"
+#define LDFS_VERSION "2.1.0"
 
 #ifdef __cplusplus
 extern "C" {
@@ -81,7 +81,8 @@ extern "C" {
 #define LDFS_REFUSED_HEAD 3     /* [S4.3] it does not begin with a head: kind 0 or 1, 1 to 4,096 stages, start below their number */
 #define LDFS_REFUSED_FIELDS 4   /* [S4.4] what follows is not exactly those stages, in the format's order, counts and lengths */
 #define LDFS_REFUSED_RANGES 5   /* [S4.5] a cost, a value, a mark or a chosen check is out of its range */
-#define LDFS_REFUSED_FINDINGS 6 /* [S4.6] findings do not ascend strictly, or one is not above its junction's number, or is no stage */
+#define LDFS_REFUSED_FINDINGS 6 /* [S4.6] findings do not ascend, on a worst sheet strictly (on a whole sheet equal ones may stand side by
+                                   side, and each counts [S2.10]), or one is not above its junction's number, or is no stage */
 #define LDFS_REFUSED_VALUES 7   /* [S4.7] a value is above its ending's cost, or above the price of a check of its junction */
 #define LDFS_REFUSED_MARKS 8    /* [S4.8] a settled stage has another value than settles it, or its chosen check an open finding */
 #define LDFS_REFUSED_BUDGET 9   /* [S4.9] the budget is 0, and nothing else is wrong: the sheet is valid */

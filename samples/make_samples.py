@@ -67,6 +67,21 @@ def sheet_c(kind):
     ])
 
 
+def two_cradles(kind=WHOLE):
+    """A gearbox (stage 0) on two identical cradles (stage 1), each of which rides on two identical bearings (stage 2).
+
+    The gearbox is opened (4.00), and then both cradles are done and the oil is filled in (stage 4); or it is exchanged (60.00), and the oil
+    filled in. A cradle gets new bearings, pressed in (3.00), or is exchanged (12.00) and aligned (stage 3).
+    """
+    return sheet(kind, [
+        junction([(400, [1, 1, 4]), (6000, [4])]),
+        junction([(300, [2, 2]), (1200, [3])]),
+        ending(850),
+        ending(350),
+        ending(900),
+    ])
+
+
 def many_stages(stages):
     """A junction whose one check (100) leads to the first ending and to the last, and endings, each of which costs its own number."""
     return sheet(WORST, [junction([(100, [1, stages - 1])])] + [ending(number) for number in range(1, stages)])
@@ -119,6 +134,9 @@ SAMPLES = {
     "c-worst.sheet": sheet_c(WORST),
     "c-whole.sheet": sheet_c(WHOLE),
     "forty.sheet": forty(),
+    # one stage listed twice in a check, which a whole sheet may do and a worst one may not
+    "two-cradles.sheet": two_cradles(),
+    "two-cradles-worst.sheet": two_cradles(WORST),
     # as many stages as a sheet may have, one more, and the deepest chain that 60,000 bytes hold
     "stages-4096.sheet": many_stages(4096),
     "stages-4097.sheet": many_stages(4097),

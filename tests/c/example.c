@@ -52,6 +52,30 @@ static const uint8_t sheet_c[] = {
 };
 enum { C_FIRST_ENDING = 32, C_ENDINGS = 4 };
 
+/* Sheet D: whole, one junction, one check (100, findings 1 and 1), an ending of 30. */
+static const uint8_t sheet_d[] = {
+    1, 0, 5, 1, 0, 2, 0, 0,                /* head: kind 1, 2 stages, start 0 */
+    3, 0, 6, 0, 0, 0, 0, 0, 0,             /* stage 0 */
+    4, 0, 8, 0, 0, 0, 100, 0, 1, 0, 1,     /*   check 0: stage 1 twice */
+    2, 0, 9, 0, 0, 0, 30, 0, 0, 0, 0, 0,   /* stage 1 */
+};
+enum { D_ENDING = 28 };
+
+/* Sheet E: whole, one junction, one check (10, findings 1, 1, 2, 2 and 2), endings 5 and 7. */
+static const uint8_t sheet_e[] = {
+    1, 0, 5, 1, 0, 3, 0, 0,                               /* head: kind 1, 3 stages, start 0 */
+    3, 0, 6, 0, 0, 0, 0, 0, 0,                            /* stage 0 */
+    4, 0, 14, 0, 0, 0, 10, 0, 1, 0, 1, 0, 2, 0, 2, 0, 2,  /*   check 0: stage 1 twice, stage 2 three times */
+    2, 0, 9, 0, 0, 0, 5, 0, 0, 0, 0, 0,                   /* stage 1 */
+    2, 0, 9, 0, 0, 0, 7, 0, 0, 0, 0, 0,                   /* stage 2 */
+};
+
+/* Where sheets have the field of stage 0, a junction, and that of its check 0. */
+enum { STAGE_0 = 8, CHECK_0 = STAGE_0 + LDFS_JUNCTION_CHECKS };
+
+/* A check has no more findings than these. */
+enum { FINDINGS_MOST = 16 };
+
 enum { WORST = 0, WHOLE = 1 };
 
 /* Fields of a sheet; the junction has one check of one finding. */
@@ -281,13 +305,28 @@ static void refused(const char *name, const uint8_t *sheet, size_t length, uint6
     expect_rest_of_table(0, 7);
 }
 
-/* Sheet A or B with one byte changed. */
+/* Sheet A, B or D with one byte changed. */
 static const uint8_t *changed(const uint8_t *sheet, size_t length, size_t place, uint8_t byte)
 {
     static uint8_t copy[sizeof sheet_a];
     memcpy(copy, sheet, length);
     copy[place] = byte;
     return copy;
+}
+
+/* D or E with these findings in the place of those of its check; its length. */
+static size_t with_findings(uint8_t *copy, const uint8_t *sheet, size_t length, const uint8_t *findings, size_t count)
+{
+    size_t from = CHECK_0 + LDFS_FIELD_CONTENT + big(sheet + CHECK_0 + LDFS_FIELD_LENGTH, 2);
+    uint8_t *at = copy + CHECK_0 + LDFS_CHECK_FINDINGS;
+    memcpy(copy, sheet, CHECK_0 + LDFS_CHECK_FINDINGS);
+    copy[CHECK_0 + LDFS_FIELD_LENGTH + 1] = (uint8_t)(LDFS_CHECK_FINDINGS - LDFS_FIELD_CONTENT + 2 * count);
+    for (size_t i = 0; i < count; i++) {
+        *at++ = 0;
+        *at++ = findings[i];
+    }
+    memcpy(at, sheet + from, length - from);
+    return (size_t)(at - copy) + length - from;
 }
 
 /* Sheet A with so much of the table and of the result, both filled with 7. */
@@ -351,6 +390,49 @@ static void slices_of_no_bytes(void)
     expect(memcmp(sheet, sheet_a, sizeof sheet) == 0, "the sheet is unaltered");
 }
 
+/* D with its ending at 30 and its junction at a value, both open. */
+static const uint8_t *sheet_d_at(uint32_t value)
+{
+    static uint8_t sheet[sizeof sheet_d];
+    memcpy(sheet, sheet_d, sizeof sheet);
+    put_big(sheet + STAGE_0 + LDFS_JUNCTION_VALUE, value);
+    put_big(sheet + D_ENDING + LDFS_ENDING_VALUE, 30);
+    return sheet;
+}
+
+/* E with other findings is refused. */
+static void e_refused(const char *name, const uint8_t *findings, size_t count)
+{
+    uint8_t sheet[sizeof sheet_e];
+    size_t length = with_findings(sheet, sheet_e, sizeof sheet_e, findings, count);
+    refused(name, sheet, length, UINT64_MAX, LDFS_REFUSED_FINDINGS);
+}
+
+/* Findings listed several times: on a whole sheet equal ones stand side by side, and each counts [S2.10, S4.6]. */
+static void listed_several_times(void)
+{
+    static const uint8_t apart[] = {1, 2, 1}, own[] = {0, 0}, beyond[] = {3, 3};
+    uint8_t sheet[sizeof sheet_c], ones[FINDINGS_MOST];
+    settles("sheet D", sheet_d, sizeof sheet_d, WHOLE, 160, 3, 3);
+    refused("sheet D, worst", changed(sheet_d, sizeof sheet_d, LDFS_HEAD_KIND, WORST), sizeof sheet_d, UINT64_MAX, LDFS_REFUSED_FINDINGS);
+
+    memcpy(sheet, sheet_d, sizeof sheet_d);
+    solve_expecting("sheet D, budget 2", sheet, sizeof sheet_d, 2, LDFS_STOPPED, 100, 2, 2);
+    solve_expecting("that sheet carried on", sheet, sizeof sheet_d, UINT64_MAX, LDFS_SETTLED, 160, 2, 1);
+
+    /* 160 is the price by those values: both stages are settled at them. */
+    settles("D, values 160 and 30", sheet_d_at(160), sizeof sheet_d, WHOLE, 160, 1, 0);
+    refused("D, values 161 and 30", sheet_d_at(161), sizeof sheet_d, UINT64_MAX, LDFS_REFUSED_VALUES);
+
+    memset(ones, 1, sizeof ones);
+    size_t length = with_findings(sheet, sheet_d, sizeof sheet_d, ones, sizeof ones);
+    settles("D, finding 1 listed 16 times", sheet, length, WHOLE, 580, 3, 3);
+    settles("sheet E", sheet_e, sizeof sheet_e, WHOLE, 41, 4, 5);
+    e_refused("E, findings 1, 2 and 1", apart, sizeof apart);
+    e_refused("E, findings 0 and 0", own, sizeof own);
+    e_refused("E, findings 3 and 3", beyond, sizeof beyond);
+}
+
 static void every_refusal(void)
 {
     const size_t a = sizeof sheet_a, b = sizeof sheet_b;
@@ -389,6 +471,7 @@ int main(void)
     chain("chain, ending 999,999", 999999, LDFS_SETTLED, 999999999);
     chain("chain, ending 1,000,000", 1000000, LDFS_OVER, LDFS_CEILING);
     most_stages();
+    listed_several_times();
     every_refusal();
     if (failures > 0) {
         printf("%d not as expected\n", failures);

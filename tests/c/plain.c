@@ -180,12 +180,12 @@ static bool order_good(const struct search *w, unsigned state)
     if (at[0] == TERMINAL)
         return true;
     for (const uint8_t *a = at + 9; action_here(w, a); a = next_action(a)) {
-        unsigned before = state;
+        unsigned least = state + 1;
         for (unsigned i = 0; i < successors(a); i++) {
             unsigned t = successor(a, i);
-            if (t <= before || t >= w->states)
+            if (t < least || t >= w->states)
                 return false;
-            before = t;
+            least = w->whole ? t : t + 1;
         }
     }
     return true;

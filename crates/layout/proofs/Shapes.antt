@@ -1,11 +1,11 @@
 -- The shape of one state and of one action, and where a successor of an ordered action lies.
-use Prim.Native.Nat.{ℕ, zero, suc, _<_}
+use Prim.Native.Nat.{ℕ, zero, suc, _+_, _<_, _≤_}
 use mathlib.Core.Path.{_≡_}
 use mathlib.Core.Bool.{true}
 use mathlib.Core.List.{List, [], _∷_}
 use native.Mathlib.Omega.{arith}
-use borrow.Author.Tests.{ltb-true}
-use lib.Dec.{ltb}
+use borrow.Author.Tests.{leb-true, ltb-true}
+use lib.Dec.{leb, ltb}
 use lib.ListN.{length, getD}
 use Rattle.model.proofs.TestLaws.{also-true, all-true}
 use Rattle.model.specs.Tests.{all}
@@ -31,14 +31,14 @@ member (t ∷ ts) zero lt = here
 member (t ∷ ts) (suc j) lt = there (member ts j (omega arith))
 
 -- each of an ascending list lies between its bounds
-pub ascending-in : (low n : ℕ) (ts : List ℕ) → ascending low n ts ≡ true → (t : ℕ) → t ∈ ts → (low < t) × (t < n)
+pub ascending-in : (d low n : ℕ) (ts : List ℕ) → ascending d low n ts ≡ true → (t : ℕ) → t ∈ ts → (low ≤ t) × (t < n)
 unfolding ascending
-ascending-in low n [] h t m = absurd (elim m [ ])
-ascending-in low n (u ∷ ts) h t m = go t m (ascending-in u n ts (g .1))
+ascending-in d low n [] h t m = absurd (elim m [ ])
+ascending-in d low n (u ∷ ts) h t m = go t m (ascending-in d (u + d) n ts (g .1))
   where
-    g : (all (ltb low u ∷ ltb u n ∷ []) ≡ true) × (ascending u n ts ≡ true)
+    g : (all (leb low u ∷ ltb u n ∷ []) ≡ true) × (ascending d (u + d) n ts ≡ true)
     g = also-true _ _ h
 
-    go : (t : ℕ) → t ∈ (u ∷ ts) → ((t : ℕ) → t ∈ ts → (u < t) × (t < n)) → (low < t) × (t < n)
-    go t here ih = let e = all-true _ (g .0) in (ltb-true _ _ (e .0), ltb-true _ _ (e .1 .0))
-    go t (there m) ih = let e = all-true _ (g .0) in (omega (arith, ltb-true low u (e .0), ih t m), ih t m .1)
+    go : (t : ℕ) → t ∈ (u ∷ ts) → ((t : ℕ) → t ∈ ts → (u + d ≤ t) × (t < n)) → (low ≤ t) × (t < n)
+    go t here ih = let e = all-true _ (g .0) in (leb-true _ _ (e .0), ltb-true _ _ (e .1 .0))
+    go t (there m) ih = let e = all-true _ (g .0) in (omega (arith, leb-true low u (e .0), ih t m), ih t m .1)

@@ -2,6 +2,7 @@ pub mod Writing
 pub mod Reaching
 pub mod Choices
 pub mod Runs
+pub mod Once
 pub mod After
 pub mod Promises
 pub mod Answers

@@ -1,13 +1,13 @@
--- The definitions give the text of sheet A (S11.16) and of sheet C, two of whose findings are equally dear (S11.17 to S11.19), and each
--- outcome's line one.
+-- The definitions give the text of sheet A (S11.16), of sheet C, two of whose findings are equally dear (S11.17 to S11.19), and of sheet E,
+-- which lists findings several times (S11.30), and each outcome's line one.
 use Prim.Native.Nat.{ℕ}
 use mathlib.Core.Path.{_≡_, refl}
-use mathlib.Core.List.{List, [], _++_}
+use mathlib.Core.List.{List, [], _∷_, _++_}
 use Rattle.model.specs.declared.Outcome.the-variants.{Over, Stopped}
 use Rattle.model.proofs.Computing.{computing}
 use Rattle.model.specs.Limits.{maxStates}
 use Rattle.model.specs.Report.{largest}
-use Rattle.model.specs.Rows.{sheetA, sheetC}
+use Rattle.model.specs.Rows.{sheetA, sheetC, sheetE}
 use Rattle.listing.specs.Text.{ascii, digits}
 use Rattle.listing.specs.Listing.{lineOne, listed, reachedBelow, stateLines, listing}
 
@@ -34,6 +34,13 @@ pub printed-C-free :
     ++ ascii "stage 1 end value 0\nstage 2 end value 0\nstage 3 end value 0\nstage 4 end value 0\n"
 unfolding computing digits listed reachedBelow stateLines listing
 printed-C-free = refl
+
+-- S11.30: of findings that are listed several times, a line each
+pub printed-E :
+    listing (sheetE (1 ∷ 1 ∷ 2 ∷ 2 ∷ 2 ∷ [])) maxStates ≡
+    ascii "settled 41 4 5\nstage 0 check 0 value 41 by 2\nstage 1 end value 5\nstage 2 end value 7\n"
+unfolding computing digits listed reachedBelow stateLines listing
+printed-E = refl
 
 pub printed-refused : listing [] maxStates ≡ ascii "refused 2\n"
 unfolding computing digits listing

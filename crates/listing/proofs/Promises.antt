@@ -1,5 +1,5 @@
--- The promises of a listing: its price is the least cost, the stages that it has lines for are those that the plan reaches, the finding
--- that a line names is the dearest, and on a worst sheet the run along those findings costs the price.
+-- The promises of a listing: its price is the least cost, the stages that it has lines for are those that the plan reaches, each has one,
+-- the finding that a line names is the dearest, and on a worst sheet the run along those findings costs the price.
 use Prim.Native.Nat.{ℕ, zero, suc, _<_, _≤_}
 use mathlib.Core.Path.{_≡_, refl, sym, subst, _∙_}
 use mathlib.Core.Bool.{Bool, true, false, _||_}
@@ -29,7 +29,8 @@ use Rattle.theory.proofs.Outcomes.{numbered}
 use Rattle.theory.proofs.Demands.{demand2, worked-accepted}
 use Rattle.listing.specs.Text.{ascii}
 use Rattle.listing.specs.Listing.{field, chosenSuccessorsOf, chosenSuccessors, dearestChosen, listed, reachedBelow, reached}
-use Rattle.listing.specs.Listing.{stateLines, Run, listing}
+use Rattle.listing.specs.Listing.{stateLines, EachOnce, Run, listing}
+use Rattle.listing.proofs.Once.{each-once}
 use Rattle.listing.proofs.Runs.{run-only, names-dearest, runs-on}
 
 -- a test or another
@@ -158,6 +159,10 @@ module _ (s : List ℕ) (bytes : Bytes s) (entries : ℕ) where
         rw (numbered s entries largest .settled e, d .price, still-a-sheet s (was-accepted e) entries largest .1),
         reached-is (problemOf s) (cellsOf after) (formed e),
       )
+
+  -- S10.3: each of those stages has one line, however often it is listed, and the lines ascend
+  pub lines-once : EachOnce (problemOf s) (cellsOf after) (states (problemOf s))
+  lines-once = each-once (problemOf s) (cellsOf after) (states (problemOf s))
 
   -- S10.3: what a junction's line names by `by` is the dearest finding of its chosen check (S2.9), by the values as work left them
   pub line-names : number (answer .outcome) ≡ 100 → (t : ℕ) (acts : List Action) → nodeAt (problemOf s) t ≡ decision acts →

@@ -1,7 +1,7 @@
 -- S10: what `price` prints.
-use Prim.Native.Nat.{ℕ, zero, suc, _+_, _*_}
+use Prim.Native.Nat.{ℕ, zero, suc, _+_, _*_, _<_}
 use mathlib.Core.Path.{_≡_}
-use mathlib.Core.Bool.{Bool, false, _||_}
+use mathlib.Core.Bool.{Bool, true, false, _||_}
 use mathlib.Core.List.{List, [], _∷_, _++_}
 use lib.Dec.{eqb, leb}
 use lib.ListN.{length, drop}
@@ -9,10 +9,11 @@ use Rattle.model.specs.declared.Outcome.{Outcome}
 use Rattle.model.specs.declared.Outcome.the-variants.{Refused, Settled, Over, Stopped}
 use Rattle.model.specs.declared.Answer.{Answer}
 use Rattle.model.specs.Tests.{fork, also}
-use Rattle.model.specs.Problem.{Action, Node, terminal, decision, Problem, Cell, states, nodeAt, actionAt, cellOf, valueOf}
+use Rattle.model.specs.Problem.{Action, Node, terminal, decision, Problem, Cell, states, nodeAt, actionAt, cellOf, valueOf, _∈_}
 use Rattle.model.specs.Read.{problemOf, cellsOf}
 use Rattle.model.specs.Limits.{maxStates}
 use Rattle.model.specs.QValue.{dearest}
+use Rattle.model.specs.Questions.{ascending}
 use Rattle.model.specs.Report.{largest, answerTo, bytesAfter, tableAfter}
 use Rattle.listing.specs.declared.Listed.{Listed}
 use Rattle.listing.specs.declared.Listed.the-variants.{TooShort, Written}
@@ -80,6 +81,20 @@ reached p cells t = reachedBelow p cells t t
 unfoldable pub stateLines : Problem → List Cell → ℕ → List ℕ
 stateLines p cells zero = []
 stateLines p cells (suc n) = stateLines p cells n ++ fork (reached p cells n) (λ _. stateLine p cells n) (λ _. [])
+
+-- the lines of some stages, in turn
+unfoldable pub linesOf : Problem → List Cell → List ℕ → List ℕ
+linesOf p cells [] = []
+linesOf p cells (t ∷ ts) = stateLine p cells t ++ linesOf p cells ts
+
+-- S10.3, a stage has one line however often it is listed: the lines of the stages below n are those of some stages in turn, which ascend
+-- strictly, and are the stages below n that the plan reaches
+pub record EachOnce (p : Problem) (cells : List Cell) (n : ℕ) : Type 0 where
+  pub on : List ℕ
+  pub lines : stateLines p cells n ≡ linesOf p cells on
+  pub rising : ascending 1 0 n on ≡ true
+  pub only-reached : (t : ℕ) → t ∈ on → reached p cells t ≡ true
+  pub each-reached : (t : ℕ) → t < n → reached p cells t ≡ true → t ∈ on
 
 -- S10.3: only when settled do lines follow, of the sheet s as work left it
 abbrev pub planOf : Outcome → List ℕ → List ℕ

@@ -8,9 +8,10 @@ use Rattle.model.specs.Read.{actionFits, successorsRead, actionRead, act
 use Rattle.model.specs.Read.{headerFits, decisionFits, nodesGood, nodesRead, cellsRead, kindOf, problemOf, cellsOf}
 use Rattle.model.specs.QValue.{join, joined, dearestFrom, dearest, leastFrom, least}
 use Rattle.model.specs.Questions.{question1, question2, question3, question4, costsInRange, chosenInRange, cellInRange, question5}
-use Rattle.model.specs.Questions.{ascending, successorsInOrder, question6}
+use Rattle.model.specs.Questions.{apart, ascending, successorsInOrder, question6}
 use Rattle.model.specs.Questions.{valueUnder, question7, allSolved, passedBy, markEarned, question8, question9, firstNo}
 use Rattle.model.specs.Questions.{sheetRefusalUnder, refusalUnder, acceptedUnder}
+use Rattle.model.specs.Earlier.{instead, strictRefusal, strictlyAccepted}
 use Rattle.model.specs.Ldfs.{onTest, onVisit, update, ifDear, visitAll, tryOne, tryAll, visitOpen, visit, onPass, passes, work}
 use Rattle.model.specs.Report.{outcomeOf, onRefusal, answerUnder, report, bytesUnder, indexTable, refusedTable, checkedTable}
 use Rattle.model.specs.Report.{tableUnder}
@@ -35,15 +36,25 @@ unfoldable computingPrices : Unit {0}
 unfolding also all every ceiling join joined dearestFrom dearest leastFrom least
 computingPrices = tt
 
--- questions 1 to 6
+-- questions 1 to 5
 unfoldable computingRanges : Unit {0}
-unfolding question1 question2 question3 question4 costsInRange chosenInRange cellInRange question5 ascending successorsInOrder question6
+unfolding question1 question2 question3 question4 costsInRange chosenInRange cellInRange question5
 computingRanges = tt
+
+-- question 6, as it is and as it was
+unfoldable computingOrder : Unit {0}
+unfolding apart ascending successorsInOrder question6 instead strictRefusal strictlyAccepted
+computingOrder = tt
 
 -- questions 7 to 9, and refusals
 unfoldable computingMarks : Unit {0}
 unfolding valueUnder question7 allSolved passedBy markEarned question8 question9 firstNo sheetRefusalUnder refusalUnder acceptedUnder
 computingMarks = tt
+
+-- all questions
+unfoldable computingAsked : Unit {0}
+unfolding computingRanges computingOrder computingMarks
+computingAsked = tt
 
 -- visits and passes
 unfoldable computingWork : Unit {0}
@@ -56,5 +67,5 @@ unfolding outcomeOf onRefusal answerUnder report bytesUnder indexTable refusedTa
 computingCalls = tt
 
 unfoldable pub computing : Unit {0}
-unfolding computingBytes computingGood computingRead computingPrices computingRanges computingMarks computingWork computingCalls
+unfolding computingBytes computingGood computingRead computingPrices computingAsked computingWork computingCalls
 computing = tt

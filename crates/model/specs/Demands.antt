@@ -14,7 +14,8 @@ use Rattle.model.specs.QValue.{cut}
 use Rattle.model.specs.Questions.{questions, answerAt, First, accepted, acceptedUnder}
 use Rattle.model.specs.Optimal.{optimal, gaps}
 use Rattle.model.specs.Policy.{Policy, Closed, policyCost, written}
-use Rattle.model.specs.Report.{answerUnder, bytesUnder, tableUnder}
+use Rattle.model.specs.Earlier.{strictRefusal}
+use Rattle.model.specs.Report.{answerGiven, bytesGiven, answerUnder, bytesUnder, tableGiven, tableUnder}
 use Rattle.model.specs.Calls.{Call, left, raisesIn}
 
 -- an accepted sheet, however far it has been worked: bytes that get a yes to every question but those on the table and the budget
@@ -111,3 +112,14 @@ pub record Raised (small large : ℕ) (s : List ℕ) : Type 0 where
   -- a table that is longer begins with what the shorter one holds, and has zeros behind it
   pub same-table : (t t′ : List ℕ) (budget : ℕ) → small ≤ length t → large ≤ length t′ → length t ≤ length t′ →
       tableUnder large s t′ budget ≡ tableUnder small s t budget ++ replicate (length t′ - length t) 0
+
+-- S8.13, of a sheet s that was accepted, under a limit of stages, when question 6 asked every sheet for strictly ascending findings: what
+-- it keeps. Each call, with any table and any budget, is as the refusal of that time would have it.
+pub record Loosened (limit : ℕ) (s : List ℕ) : Type 0 where
+  pub still-accepted : acceptedUnder limit s ≡ true
+  pub same-answer : (entries budget : ℕ) →
+      answerUnder limit s entries budget ≡ answerGiven (strictRefusal limit s entries budget) s budget
+  pub same-bytes : (entries budget : ℕ) →
+      bytesUnder limit s entries budget ≡ bytesGiven (strictRefusal limit s entries budget) s budget
+  pub same-table : (t : List ℕ) (budget : ℕ) →
+      tableUnder limit s t budget ≡ tableGiven (strictRefusal limit s (length t) budget) s t

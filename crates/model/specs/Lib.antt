@@ -5,6 +5,7 @@ pub mod Tests
 pub mod Read
 pub mod QValue
 pub mod Questions
+pub mod Earlier
 pub mod Ldfs
 pub mod Optimal
 pub mod Policy

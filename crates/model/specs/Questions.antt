@@ -1,12 +1,13 @@
 -- S4: the questions put to a sheet, in its words; S5.1: the refusal is the number of the first whose answer is no.
-use Prim.Native.Nat.{ℕ, _<_}
+use Prim.Native.Nat.{ℕ, _+_, _<_}
 use mathlib.Core.Path.{_≡_}
 use mathlib.Core.Bool.{Bool, true, false}
 use mathlib.Core.List.{List, [], _∷_, _++_}
 use lib.ListN.{length, getD, drop}
 use lib.Dec.{eqb, leb, ltb}
 use Rattle.model.specs.Tests.{fork, also, all, every}
-use Rattle.model.specs.Problem.{Action, Node, terminal, decision, Problem, Cell, states, nodeAt, actionAt, cellOf, valueOf, solved}
+use Rattle.model.specs.Problem.{Kind, worst, whole, Action, Node, terminal, decision, Problem, Cell}
+use Rattle.model.specs.Problem.{states, nodeAt, actionAt, cellOf, valueOf, solved}
 use Rattle.model.specs.Limits.{maxStates, minBytes, maxBytes, maxCost, ceiling}
 use Rattle.model.specs.Format.{be16, headTag, headLength, kindIn, statesIn, startIn, headSize}
 use Rattle.model.specs.Read.{tag, contentLength, nodesGood, problemOf, cellsOf}
@@ -58,18 +59,28 @@ cellInRange n c = all (leb (c .value) ceiling ∷ leb (c .mark) 1 ∷ chosenInRa
 unfoldable pub question5 : Problem → List Cell → Bool
 question5 p cells = everyState p (λ s n. all (costsInRange n ∷ cellInRange n (cellOf cells s) ∷ []))
 
--- S4.6, findings: are a check's findings strictly ascending, above the number of its own junction, and below the number of stages?
--- `ascending low n ts`: each above the one before it, the first above low, all below n
-unfoldable pub ascending : ℕ → ℕ → List ℕ → Bool
-ascending low n [] = true
-ascending low n (t ∷ ts) = also (all (ltb low t ∷ ltb t n ∷ [])) (λ _. ascending t n ts)
+-- S4.6, findings: are a check's findings above the number of its own junction, below the number of stages, and ascending: strictly on a
+-- worst sheet, and on a whole sheet so that equal ones may stand side by side?
+-- how far a finding is above the one before it, at the least
+unfoldable pub apart : Kind → ℕ
+apart worst = 1
+apart whole = 0
 
-unfoldable pub successorsInOrder : ℕ → ℕ → Node → Bool
-successorsInOrder n s (terminal cost) = true
-successorsInOrder n s (decision acts) = everyAction acts (λ a. ascending s n (a .successors))
+-- `ascending d low n ts`: the first is low or more, each is d or more above the one before it, all are below n
+unfoldable pub ascending : ℕ → ℕ → ℕ → List ℕ → Bool
+ascending d low n [] = true
+ascending d low n (t ∷ ts) = also (all (leb low t ∷ ltb t n ∷ [])) (λ _. ascending d (t + d) n ts)
+
+unfoldable pub successorsInOrder : ℕ → ℕ → ℕ → Node → Bool
+successorsInOrder d n s (terminal cost) = true
+successorsInOrder d n s (decision acts) = everyAction acts (λ a. ascending d (s + 1) n (a .successors))
+
+-- the findings of every check in order, each d or more above the one before it
+abbrev pub inOrder : ℕ → Problem → Bool
+inOrder d p = everyState p (successorsInOrder d (states p))
 
 unfoldable pub question6 : Problem → Bool
-question6 p = everyState p (successorsInOrder (states p))
+question6 p = inOrder (apart (p .kind)) p
 
 -- S4.7, values: is each ending's value at most its cost, and each junction's value at most the price of each of its checks?
 unfoldable pub valueUnder : Problem → List Cell → ℕ → Node → Bool

@@ -59,17 +59,20 @@ unfoldable pub onRefusal : {A : Type 0} → ℕ → (Unit {0} → A) → (ℕ �
 onRefusal zero f g = f tt
 onRefusal (suc n) f g = g (suc n)
 
--- the answer to a call on the sheet s, with a table of so many entries and a budget, under a limit of stages
-unfoldable pub answerUnder : ℕ → List ℕ → ℕ → ℕ → Answer
-answerUnder limit s entries budget =
-    onRefusal (refusalUnder limit s entries budget)
-    (λ _. finished (problemOf s) budget (work (problemOf s) (cellsOf s) budget)) (refused budget)
+-- the answer to a call on the sheet s with a budget, given the number of the question that refuses it, 0 for none
+abbrev pub answerGiven : ℕ → List ℕ → ℕ → Answer
+answerGiven n s budget = onRefusal n (λ _. finished (problemOf s) budget (work (problemOf s) (cellsOf s) budget)) (refused budget)
 
 -- S5.3, S7.4: the sheet's bytes after it: unchanged when refused, else values, marks and chosen checks as work left them
+abbrev pub bytesGiven : ℕ → List ℕ → ℕ → List ℕ
+bytesGiven n s budget = onRefusal n (λ _. write (problemOf s) (cellsAfter (work (problemOf s) (cellsOf s) budget))) (λ _. s)
+
+-- both, of a call with a table of so many entries, under a limit of stages
+unfoldable pub answerUnder : ℕ → List ℕ → ℕ → ℕ → Answer
+answerUnder limit s entries budget = answerGiven (refusalUnder limit s entries budget) s budget
+
 unfoldable pub bytesUnder : ℕ → List ℕ → ℕ → ℕ → List ℕ
-bytesUnder limit s entries budget =
-    onRefusal (refusalUnder limit s entries budget)
-    (λ _. write (problemOf s) (cellsAfter (work (problemOf s) (cellsOf s) budget))) (λ _. s)
+bytesUnder limit s entries budget = bytesGiven (refusalUnder limit s entries budget) s budget
 
 -- the same under the limit of S4.1 and S4.3: what a call answers and leaves
 abbrev pub answerTo : List ℕ → ℕ → ℕ → Answer
@@ -92,14 +95,17 @@ refusedTable t zero = t
 refusedTable t (suc zero) = t
 refusedTable t (suc (suc n)) = replicate (length t) 0
 
+-- the content of the table t afterwards, given the number of the question that refuses the sheet s or the call, 0 for none
+abbrev pub tableGiven : ℕ → List ℕ → List ℕ → List ℕ
+tableGiven n s t = onRefusal n (λ _. indexTable (problemOf s) (length t)) (refusedTable t)
+
 -- the table's content once questions 1 to 8 have been put
 unfoldable pub checkedTable : List ℕ → List ℕ → List ℕ
-checkedTable s t = onRefusal (sheetRefusal s (length t)) (λ _. indexTable (problemOf s) (length t)) (refusedTable t)
+checkedTable s t = tableGiven (sheetRefusal s (length t)) s t
 
 -- the table's content after the call, under a limit of stages, and under that of S4.1 and S4.3
 unfoldable pub tableUnder : ℕ → List ℕ → List ℕ → ℕ → List ℕ
-tableUnder limit s t budget =
-    onRefusal (refusalUnder limit s (length t) budget) (λ _. indexTable (problemOf s) (length t)) (refusedTable t)
+tableUnder limit s t budget = tableGiven (refusalUnder limit s (length t) budget) s t
 
 abbrev pub tableAfter : List ℕ → List ℕ → ℕ → List ℕ
 tableAfter = tableUnder maxStates

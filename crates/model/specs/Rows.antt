@@ -2,7 +2,7 @@
 use Prim.Native.Nat.{ℕ, zero, suc, _+_, _*_, _^_, min}
 use mathlib.Core.Path.{_≡_}
 use mathlib.Core.List.{List, [], _∷_, _++_}
-use lib.ListN.{getD, set, take}
+use lib.ListN.{length, getD, set, take, replicate}
 use Rattle.model.specs.Problem.{worst, whole, action, Node, terminal, decision, problem, Cell, cell}
 use Rattle.model.specs.Format.{bytes2, successorsBytes, write}
 use Rattle.model.specs.Limits.{maxStates}
@@ -64,6 +64,15 @@ sheetC kind one two three four =
     ∷ 2 ∷ 0 ∷ 9 ∷ 0 ∷ 0 ∷ 0 ∷ four ∷ 0 ∷ 0 ∷ 0 ∷ 0 ∷ 0
     ∷ []
 
+-- Sheet D of a kind, with the values of its junction and of its ending.
+abbrev pub sheetD : ℕ → ℕ → ℕ → List ℕ
+sheetD kind value end =
+    1 ∷ 0 ∷ 5 ∷ kind ∷ 0 ∷ 2 ∷ 0 ∷ 0
+    ∷ 3 ∷ 0 ∷ 6 ∷ 0 ∷ 0 ∷ 0 ∷ value ∷ 0 ∷ 0
+    ∷ 4 ∷ 0 ∷ 8 ∷ 0 ∷ 0 ∷ 0 ∷ 100 ∷ 0 ∷ 1 ∷ 0 ∷ 1
+    ∷ 2 ∷ 0 ∷ 9 ∷ 0 ∷ 0 ∷ 0 ∷ 30 ∷ 0 ∷ 0 ∷ 0 ∷ end ∷ 0
+    ∷ []
+
 -- one ending of value 0
 abbrev ending : ℕ → List ℕ
 ending cost = 2 ∷ 0 ∷ 9 ∷ 0 ∷ 0 ∷ 0 ∷ cost ∷ 0 ∷ 0 ∷ 0 ∷ 0 ∷ 0 ∷ []
@@ -87,11 +96,19 @@ manyChecks n =
     ∷ 3 ∷ 0 ∷ 6 ∷ 0 ∷ 0 ∷ 0 ∷ 0 ∷ 0 ∷ 0
     ∷ repeat n (4 ∷ 0 ∷ 6 ∷ 0 ∷ 0 ∷ 0 ∷ 1 ∷ 0 ∷ 1 ∷ []) ++ ending 0
 
+-- a sheet of a kind and so many stages: a junction with one check of a cost and some findings, and the endings behind it
+abbrev oneCheck : ℕ → ℕ → ℕ → List ℕ → List ℕ → List ℕ
+oneCheck kind stages cost findings endings =
+    (1 ∷ 0 ∷ 5 ∷ kind ∷ 0 ∷ stages ∷ 0 ∷ 0 ∷ 3 ∷ 0 ∷ 6 ∷ 0 ∷ 0 ∷ 0 ∷ 0 ∷ 0 ∷ 0 ∷ [])
+    ++ (4 ∷ bytes2 (4 + 2 * length findings)) ++ (0 ∷ 0 ∷ 0 ∷ cost ∷ []) ++ successorsBytes findings ++ endings
+
 -- a junction with one check of n findings, and the endings that they lead to
 abbrev manyFindings : ℕ → List ℕ
-manyFindings n =
-    (1 ∷ 0 ∷ 5 ∷ 0 ∷ 0 ∷ suc n ∷ 0 ∷ 0 ∷ 3 ∷ 0 ∷ 6 ∷ 0 ∷ 0 ∷ 0 ∷ 0 ∷ 0 ∷ 0 ∷ 4 ∷ bytes2 (4 + 2 * n))
-    ++ (0 ∷ 0 ∷ 0 ∷ 1 ∷ []) ++ successorsBytes (upFrom 1 n) ++ repeat n (ending 0)
+manyFindings n = oneCheck 0 (suc n) 1 (upFrom 1 n) (repeat n (ending 0))
+
+-- Sheet E with these findings in the place of its own.
+abbrev pub sheetE : List ℕ → List ℕ
+sheetE findings = oneCheck 1 3 10 findings (ending 5 ++ ending 7)
 
 -- Two sheets beside those of S11, each for a slip that its rows leave unseen.
 -- The chosen check is the one that passed: check 0 costs as little as check 1, and is abandoned because stage 1 fails.
@@ -178,6 +195,18 @@ rows =
     ∷ row (sheetC 0 10 40 40 20) largest (settled 50 4 7)
     ∷ row (sheetC 1 10 40 40 20) largest (settled 120 6 9)
     ∷ row (sheetC 0 0 0 0 0) largest (settled 10 2 1)
+    -- S11.23 to S11.29
+    ∷ row (sheetD 1 0 0) largest (settled 160 3 3)
+    ∷ row (sheetD 0 0 0) largest (refusedBy 6)
+    ∷ row (sheetD 1 0 0) 2 (stopped 100 2 2)
+    ∷ row (carriedOn (sheetD 1 0 0) 2) largest (settled 160 2 1)
+    ∷ row (sheetD 1 160 30) largest accepts
+    ∷ row (sheetD 1 161 30) largest (refusedBy 7)
+    ∷ row (oneCheck 1 2 100 (replicate 16 1) (ending 30)) largest (settled 580 3 3)
+    ∷ row (sheetE (1 ∷ 1 ∷ 2 ∷ 2 ∷ 2 ∷ [])) largest (settled 41 4 5)
+    ∷ row (sheetE (1 ∷ 2 ∷ 1 ∷ [])) largest (refusedBy 6)
+    ∷ row (sheetE (0 ∷ 0 ∷ [])) largest (refusedBy 6)
+    ∷ row (sheetE (3 ∷ 3 ∷ [])) largest (refusedBy 6)
     -- beside those of S11
     ∷ row (take 19 (oneEnding 0)) largest (refusedBy 2)
     ∷ row (set sheetA 23 0) largest (refusedBy 5)

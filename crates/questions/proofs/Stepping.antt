@@ -5,20 +5,22 @@ use mathlib.Core.Bool.{Bool, true, false}
 use mathlib.Core.List.{List, [], _∷_}
 use native.Mathlib.Omega.{arith}
 use native.Mathlib.Numerals.{add-one}
-use borrow.Author.Tests.{le-leb, lt-leb, lt-ltb, le-ltb, ltb-true, ltb-false, eqb-true, eqb-false}
+use borrow.Author.Tests.{le-leb, lt-leb, leb-true, ltb-true, ltb-false, eqb-true, eqb-false}
 use lib.Dec.{leb, ltb, eqb}
 use lib.ListN.{length, getD, drop, drop-of-length-le}
 use lib.Seq.{drop-cons}
 use Rattle.model.proofs.TestLaws.{true-also, every-true, every-false}
 use Rattle.model.specs.Tests.{also, all, every}
-use Rattle.model.specs.Problem.{decision, Problem, Cell, states, nodeAt, actionAt, cellOf, valueOf, solved}
+use Rattle.model.specs.Problem.{Kind, worst, whole, decision, Problem, Cell, states, nodeAt, actionAt, cellOf, valueOf, solved}
 use Rattle.model.specs.Format.{terminalTag, decisionTag, actionTag, tagOf, actionsOf, actionOffset}
 use Rattle.model.specs.Read.{actionFits, actionRead, problemOf, cellsOf}
 use Rattle.model.specs.QValue.{q}
 use Rattle.model.specs.Limits.{maxCost, maxActions}
-use Rattle.model.specs.Questions.{costsInRange, ascending, successorsInOrder, question6, valueUnder, allSolved, passedBy, markEarned}
+use Rattle.model.specs.Questions.{costsInRange, apart, ascending, successorsInOrder, question6, valueUnder, allSolved, passedBy}
+use Rattle.model.specs.Questions.{markEarned}
 use Rattle.layout.proofs.Shapes.{member, ascending-in}
-use Rattle.sheet.specs.Sheet.{Sheet, Within, Terminal, Decision, Priced, costOf}
+use Rattle.sheet.specs.Sheet.{Sheet, Within, Terminal, Decision, Priced, costOf, ofKind}
+use Rattle.sheet.proofs.Joining.{of-worst, of-whole}
 use Rattle.sheet.proofs.Laws.{actionsAt, not-terminal, is-terminal, is-decision, few-actions, action-stands, action-ends}
 use Rattle.sheet.proofs.Laws.{action-is, action-in-place, action-priced, action-after}
 use Rattle.questions.specs.Put.{countInRange}
@@ -40,8 +42,8 @@ module _ (n : ℕ) (f : ℕ → Bool) (b : Bool) (is : b ≡ every n f) where
 abbrev pub costOfFits : Problem → ℕ → ℕ → Bool
 costOfFits p s k = all (leb 1 (actionAt (actionsAt p s) k .cost) ∷ leb (actionAt (actionsAt p s) k .cost) maxCost ∷ [])
 
-abbrev pub orderOf : Problem → ℕ → ℕ → ℕ → Bool
-orderOf p n s k = ascending s n (actionAt (actionsAt p s) k .successors)
+abbrev pub orderOf : Problem → ℕ → ℕ → ℕ → ℕ → Bool
+orderOf p d n s k = ascending d (s + 1) n (actionAt (actionsAt p s) k .successors)
 
 abbrev pub priceOver : Problem → List Cell → ℕ → ℕ → Bool
 priceOver p cells s k = leb (valueOf cells s) (q (p .kind) (valueOf cells) (actionAt (actionsAt p s) k))
@@ -55,9 +57,9 @@ module _ (p : Problem) (s : ℕ) (tag : tagOf (nodeAt p s) ≡ decisionTag) wher
   unfolding costsInRange actionsOf
   costs-are = rw node
 
-  pub order-is : (n : ℕ) → successorsInOrder n s (nodeAt p s) ≡ every (length (actionsAt p s)) (orderOf p n s)
+  pub order-is : (d n : ℕ) → successorsInOrder d n s (nodeAt p s) ≡ every (length (actionsAt p s)) (orderOf p d n s)
   unfolding successorsInOrder actionsOf
-  order-is n = rw node
+  order-is d n = rw node
 
   pub under-is : (cells : List Cell) → valueUnder p cells s (nodeAt p s) ≡ every (length (actionsAt p s)) (priceOver p cells s)
   unfolding valueUnder actionsOf
@@ -74,38 +76,38 @@ unfolding also all
 also-yes true = refl
 also-yes false = refl
 
--- t need not be held to n where u, above t, is
-skipped : (t n u : ℕ) (more : Unit {0} → Bool) →
-    also (all (true ∷ ltb t n ∷ [])) (λ _. also (all (ltb t u ∷ ltb u n ∷ [])) more)
-    ≡ also (all (ltb t u ∷ ltb u n ∷ [])) more
+-- t need not be held to n where u is, which is t + d or more
+skipped : (d t n u : ℕ) (more : Unit {0} → Bool) →
+    also (all (true ∷ ltb t n ∷ [])) (λ _. also (all (leb (t + d) u ∷ ltb u n ∷ [])) more)
+    ≡ also (all (leb (t + d) u ∷ ltb u n ∷ [])) more
 unfolding also all
-skipped t n u more = go (ltb t n) (ltb t u) (ltb u n) refl refl refl
+skipped d t n u more = go (ltb t n) (leb (t + d) u) (ltb u n) refl refl refl
   where
-    go : (b c d : Bool) → ltb t n ≡ b → ltb t u ≡ c → ltb u n ≡ d →
-        also (all (true ∷ b ∷ [])) (λ _. also (all (c ∷ d ∷ [])) more) ≡ also (all (c ∷ d ∷ [])) more
-    go true c d _ _ _ = refl
-    go false false d _ _ _ = refl
+    go : (a b c : Bool) → ltb t n ≡ a → leb (t + d) u ≡ b → ltb u n ≡ c →
+        also (all (true ∷ a ∷ [])) (λ _. also (all (b ∷ c ∷ [])) more) ≡ also (all (b ∷ c ∷ [])) more
+    go true b c _ _ _ = refl
+    go false false c _ _ _ = refl
     go false true false _ _ _ = refl
-    go false true true e f g = absurd (omega (arith, ltb-false t n e, ltb-true t u f, ltb-true u n g))
+    go false true true e f g = absurd (omega (arith, ltb-false t n e, leb-true (t + d) u f, ltb-true u n g))
 
 -- successors in turn, from number j on
 module _ (ts : List ℕ) (j t : ℕ) (lt : j < length ts) (at : t ≡ getD ts j 0) where
   rest : drop j ts ≡ t ∷ drop (j + 1) ts
   rest = drop-cons ts j 0 lt ∙ rw (add-one, at)
 
-  module _ (last n : ℕ) where
-    pub not-above : t ≤ last → false ≡ ascending last n (drop j ts)
+  module _ (d least n : ℕ) where
+    pub too-low : t < least → false ≡ ascending d least n (drop j ts)
     unfolding ascending also all
-    not-above a = rw (rest, le-ltb last t a)
+    too-low a = rw (rest, lt-leb least t a)
 
-    -- the last of them is held to n, and one before it need not be: another above it is
-    pub last-below : last < t → j + 1 ≡ length ts → ltb t n ≡ ascending last n (drop j ts)
+    -- the last of them is held to n, and one before it need not be: another, which is as large, is
+    pub last-below : least ≤ t → j + 1 ≡ length ts → ltb t n ≡ ascending d least n (drop j ts)
     unfolding ascending
-    last-below a e = rw (rest, lt-ltb last t a, drop-of-length-le ts {i = j + 1} (omega arith)) (sym (also-yes (ltb t n)))
+    last-below a e = rw (rest, le-leb least t a, drop-of-length-le ts {i = j + 1} (omega arith)) (sym (also-yes (ltb t n)))
 
-    pub ascends : last < t → j + 1 < length ts → ascending last n (drop j ts) ≡ ascending t n (drop (j + 1) ts)
+    pub ascends : least ≤ t → j + 1 < length ts → ascending d least n (drop j ts) ≡ ascending d (t + d) n (drop (j + 1) ts)
     unfolding ascending
-    ascends a more = rw (rest, lt-ltb last t a, drop-cons ts (j + 1) 0 more) (skipped t n _ _)
+    ascends a more = rw (rest, le-leb least t a, drop-cons ts (j + 1) 0 more) (skipped d t n _ _)
 
   module _ (cells : List Cell) where
     pub solved-more : solved (cellOf cells t) ≡ true → allSolved cells (drop j ts) ≡ allSolved cells (drop (j + 1) ts)
@@ -138,8 +140,8 @@ below : (p : Problem) (s : ℕ) → s < states p → tagOf (nodeAt p s) ≡ deci
     getD (actionAt (actionsAt p s) k .successors) j 0 < states p
 unfolding question6
 below p s lt tag h k lk j lj =
-    let ordered = sym (order-is p s tag (states p)) ∙ every-true (states p) _ h s lt in
-    ascending-in s (states p) _ (every-true _ _ ordered k lk) _ (member _ j lj) .1
+    let ordered = sym (order-is p s tag (apart (p .kind)) (states p)) ∙ every-true (states p) _ h s lt in
+    ascending-in (apart (p .kind)) (s + 1) (states p) _ (every-true _ _ ordered k lk) _ (member _ j lj) .1
 
 -- A loop over the actions of decision i: action k stands at o.
 pub record Along (s : List ℕ) (i k o : ℕ) : Type 0 where
@@ -221,15 +223,28 @@ module _ {s t : List ℕ} {i k o : ℕ} (d : Decision s t i) (a : Along s i k o)
   price-under le = le-leb _ _ (rw (v, priced) at le)
 
 -- question 6 at a terminal
-pub order-terminal : {s t : List ℕ} {i : ℕ} → Terminal s t i → (n : ℕ) → true ≡ successorsInOrder n i (nodeAt (problemOf s) i)
+pub order-terminal : {s t : List ℕ} {i : ℕ} → Terminal s t i → (d n : ℕ) →
+    true ≡ successorsInOrder d n i (nodeAt (problemOf s) i)
 unfolding successorsInOrder
-order-terminal {s} {t} {i} d n = rw (is-terminal (nodeAt (problemOf s) i) (d .tag))
+order-terminal {s} {t} {i} h d n = rw (is-terminal (nodeAt (problemOf s) i) (h .tag))
+
+-- how far apart successors are, at the least, by the byte of a sheet's kind
+apart-of : (k : Kind) → apart k ≡ ofKind k 1 0
+unfolding apart ofKind
+apart-of worst = refl
+apart-of whole = refl
+
+pub worst-apart : (s : List ℕ) → getD s 3 0 ≡ 0 → apart (problemOf s .kind) ≡ 1
+worst-apart s e = apart-of (problemOf s .kind) ∙ sym (of-worst s 1 0 e)
+
+pub whole-apart : (s : List ℕ) → (getD s 3 0 ≡ 0 → ⊥) → apart (problemOf s .kind) ≡ 0
+whole-apart s ne = apart-of (problemOf s .kind) ∙ sym (of-whole s 1 0 ne)
 
 -- questions 6 and 7 of a decision
 module _ {s t : List ℕ} {i : ℕ} (d : Decision s t i) where
-  pub order-of : (n : ℕ) →
-      successorsInOrder n i (nodeAt (problemOf s) i) ≡ every (length (actionsAt (problemOf s) i)) (orderOf (problemOf s) n i)
-  order-of n = order-is (problemOf s) i (d .tag) n
+  pub order-of : (e n : ℕ) →
+      successorsInOrder e n i (nodeAt (problemOf s) i) ≡ every (length (actionsAt (problemOf s) i)) (orderOf (problemOf s) e n i)
+  order-of e n = order-is (problemOf s) i (d .tag) e n
 
   pub under-of : valueUnder (problemOf s) (cellsOf s) i (nodeAt (problemOf s) i) ≡
       every (length (actionsAt (problemOf s) i)) (priceOver (problemOf s) (cellsOf s) i)

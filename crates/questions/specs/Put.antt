@@ -8,7 +8,7 @@ use Rattle.model.specs.Tests.{fork, all}
 use Rattle.model.specs.Problem.{Node, Problem, Cell, states, nodeAt, cellOf, solved}
 use Rattle.model.specs.Format.{actionsOf}
 use Rattle.model.specs.Read.{fieldSize, actionFits}
-use Rattle.model.specs.Questions.{costsInRange, cellInRange, successorsInOrder, valueUnder, markEarned}
+use Rattle.model.specs.Questions.{costsInRange, cellInRange, apart, successorsInOrder, valueUnder, markEarned}
 use Rattle.model.specs.Questions.{question5, question6, stateQuestions, firstNo}
 use Rattle.questions.specs.declared.states.Question.{Question}
 use Rattle.questions.specs.declared.states.Question.the-variants.{Ranges, Findings, Values, Marks}
@@ -35,7 +35,7 @@ Before Marks p cells = (question5 p cells ≡ true) × (question6 p ≡ true)
 -- a question of state s
 unfoldable pub passesAt : Question → Problem → List Cell → ℕ → Bool
 passesAt Ranges p cells s = rangesAt (nodeAt p s) (cellOf cells s)
-passesAt Findings p cells s = successorsInOrder (states p) s (nodeAt p s)
+passesAt Findings p cells s = successorsInOrder (apart (p .kind)) (states p) s (nodeAt p s)
 passesAt Values p cells s = valueUnder p cells s (nodeAt p s)
 passesAt Marks p cells s = fork (solved (cellOf cells s)) (λ _. markEarned p cells s (nodeAt p s)) (λ _. true)
 

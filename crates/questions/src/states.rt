@@ -8,7 +8,7 @@ ghost use Rattle.model.specs.Problem.{nodeAt, cellOf, states};
 ghost use Rattle.model.specs.Format.{actionsOf, actionOffset};
 ghost use Rattle.model.specs.Limits.{maxActions};
 ghost use Rattle.model.specs.Read.{problemOf, cellsOf, actionFits, actionRead};
-ghost use Rattle.model.specs.Questions.{ascending, successorsInOrder, valueUnder, allSolved, markEarned, question6};
+ghost use Rattle.model.specs.Questions.{apart, ascending, successorsInOrder, valueUnder, allSolved, markEarned, question6};
 ghost use Rattle.sheet.specs.Sheet.{Within, Decision, Priced};
 ghost use Rattle.questions.specs.Put.{rangesAt, countInRange, ChosenExists, Before, passesAt};
 use model::CEILING;
@@ -90,39 +90,41 @@ fn in_range(sheet: &[u8], table: &[u32], state: usize) -> bool
     }
 }
 
-// Are the successors of the action at `at` strictly ascending, above `low` and below `n`? Where they ascend, the last of them alone is held
-// to `n`.
-fn ascending_at(sheet: &[u8], at: usize, low: usize, n: usize) -> bool
+// Of the successors of the action at `at`, is the first `low` or more, each of the others `d` or more above the one before it, and is each
+// below `n`? Where they ascend, the last of them alone is held to `n`.
+fn ascending_at(sheet: &[u8], at: usize, d: usize, low: usize, n: usize) -> bool
     requires { ⌜ actionFits (drop at (now sheet)) ≡ true ⌝ }
-    ensures { λ r. ⌜ r ≡ ascending low n (actionRead (drop at (now (sheet .entry))) .successors) ⌝ }
+    requires { ⌜ d ≤ 1 ⌝ }
+    ensures { λ r. ⌜ r ≡ ascending d low n (actionRead (drop at (now (sheet .entry))) .successors) ⌝ }
 {
     let end = next_action(sheet, at);
-    let mut last = low;
+    let mut least = low;
     let mut j: usize = 0;
     loop {
         let t = successor(sheet, at, j);
-        if t <= last {
+        if t < least {
             return false;
         }
-        last = t;
+        least = t + d;
         j += 1;
         if end <= at + format::SUCCESSORS_IN + format::SUCCESSOR_BYTES * j {
-            return last < n;
+            return t < n;
         }
     }
 }
 
-// Question 6 of one state.
-fn in_order(sheet: &[u8], table: &[u32], state: usize, n: usize) -> bool
+// Are the successors of each action of a state above the state, each `d` or more above the one before it, and below `n`?
+fn in_steps(sheet: &[u8], table: &[u32], state: usize, d: usize, n: usize) -> bool
     requires { ⌜ Within (now sheet) (now table) state ⌝ }
-    ensures { λ r. ⌜ r ≡ successorsInOrder n state (nodeAt (problemOf (now (sheet .entry))) state) ⌝ }
+    requires { ⌜ d ≤ 1 ⌝ }
+    ensures { λ r. ⌜ r ≡ successorsInOrder d n state (nodeAt (problemOf (now (sheet .entry))) state) ⌝ }
 {
     if is_terminal(sheet, table, state) {
         return true;
     }
     let mut at: usize = first_action(sheet, table, state);
     loop {
-        if ascending_at(sheet, at, state, n) {
+        if ascending_at(sheet, at, d, state + 1, n) {
             at = next_action(sheet, at);
         } else {
             return false;
@@ -132,6 +134,20 @@ fn in_order(sheet: &[u8], table: &[u32], state: usize, n: usize) -> bool
         } else {
             return true;
         }
+    }
+}
+
+// Question 6 of one state: on a worst sheet successors ascend strictly, and on a whole one equal ones may stand side by side. The step is a
+// number at each call, so that the compiler makes a loop for each kind.
+fn in_order(sheet: &[u8], table: &[u32], state: usize, n: usize) -> bool
+    requires { ⌜ Within (now sheet) (now table) state ⌝ }
+    ensures { λ r. ⌜ r ≡ successorsInOrder (apart (problemOf (now (sheet .entry)) .kind)) n state
+        (nodeAt (problemOf (now (sheet .entry))) state) ⌝ }
+{
+    if sheet[format::KIND_IN] == format::WORST {
+        in_steps(sheet, table, state, 1, n)
+    } else {
+        in_steps(sheet, table, state, 0, n)
     }
 }
 

@@ -15,6 +15,7 @@ use super::sheets::ENDING;
 use super::sheets::FAN;
 use super::sheets::FINDINGS_0;
 use super::sheets::ONE;
+use super::sheets::PAIR_E;
 use super::sheets::SETTLED_B;
 use ldfs::solve;
 use model::MAX_STATES;
@@ -86,14 +87,24 @@ fn choices() {
     ask_worked_a(b"A-settled-chosen-0", 16, 1, 0);
 }
 
-// Question 6: findings out of order, equal, at the number of stages, in order, and at their own junction. Both of B's are one number of
-// four bytes.
+// Question 6 of a worst sheet: findings out of order, equal, at the number of stages, in order, and at their own junction. Both of B's are
+// one number of four bytes.
 fn order() {
     ask_b(b"B-findings-2-1", 24, 4, 0x00020001);
     ask_b(b"B-findings-1-1", 24, 4, 0x00010001);
     ask_b(b"B-findings-1-3", 24, 4, 0x00010003);
     ask_b(b"B-findings-1-2", 24, 4, 0x00010002);
     ask(b"A-junction-1-finding-1", &A, 53, 2, 1);
+}
+
+// Question 6 of a whole sheet: the same, and equal findings at the last stage.
+fn order_of_whole() {
+    ask(b"whole-findings-2-1", &PAIR_E, 24, 4, 0x00020001);
+    ask(b"whole-findings-1-1", &PAIR_E, 24, 4, 0x00010001);
+    ask(b"whole-findings-1-3", &PAIR_E, 24, 4, 0x00010003);
+    ask(b"whole-findings-1-2", &PAIR_E, 24, 4, 0x00010002);
+    ask(b"whole-findings-2-2", &PAIR_E, 24, 4, 0x00020002);
+    ask(b"whole-findings-0-1", &PAIR_E, 24, 4, 0x00000001);
 }
 
 // Question 7: an ending's value at its cost and above. Questions 5 and 8: settled junctions, one of which chose a check past its last, one
@@ -115,5 +126,6 @@ pub fn limits() {
     values();
     choices();
     order();
+    order_of_whole();
     settled();
 }

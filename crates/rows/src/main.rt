@@ -3,7 +3,7 @@
 // specification and were worked out by hand, not taken from a run. Where `solve` refuses a sheet and changes a byte of it, the line has
 // the word `changed`, which `stdout` has nowhere.
 //
-// The tables of S11 give the lines up to `C-endings-0`, but for two. S11.15 says of 16 checks, and of 16 findings, only that they are
+// The tables of S11 give the lines up to `E-findings-3-3`, but for two. S11.15 says of 16 checks, and of 16 findings, only that they are
 // accepted; that working them gives `settled 1 2 1` follows from S6: every check costs 1 and every ending 0, so pass 1 finds each price,
 // 1, above the start's value, 0, raises that to 1 and fails, and pass 2 succeeds with no raise.
 //

@@ -1,4 +1,5 @@
 // The rows of S11, in its order.
+use super::cases::ask;
 use super::cases::ask_b;
 use super::cases::lay;
 use super::cases::work;
@@ -8,22 +9,28 @@ use super::large::chains;
 use super::lines::LARGEST;
 use super::lines::work_line;
 use super::sheets::A;
+use super::sheets::APART_E;
 use super::sheets::B;
 use super::sheets::C;
 use super::sheets::CHECK;
+use super::sheets::CRADLES_16;
+use super::sheets::D;
+use super::sheets::E;
 use super::sheets::FINDINGS_16;
 use super::sheets::FINDINGS_17;
 use super::sheets::FREE_C;
 use super::sheets::ONE;
+use super::sheets::PAIR_E;
+use super::sheets::VALUED_D;
 use model::MAX_STATES;
 
-// Sheet A stopped, and that sheet carried on.
-fn carried_on() {
-    let mut sheet = [0u8; 81];
+// A sheet stopped after two raises, and that sheet carried on.
+fn carried_on(stopped: &[u8], on: &[u8], base: &[u8]) {
+    let mut sheet = [0u8; 128];
     let mut table = [0u32; MAX_STATES];
-    let n = lay(&mut sheet, &A, 0, 0, 0);
-    work_line(b"A-budget-2", &mut sheet, n, &mut table, 2);
-    work_line(b"A-carried-on", &mut sheet, n, &mut table, LARGEST);
+    let n = lay(&mut sheet, base, 0, 0, 0);
+    work_line(stopped, &mut sheet, n, &mut table, 2);
+    work_line(on, &mut sheet, n, &mut table, LARGEST);
 }
 
 // One ending, of cost 0 and of cost 70; sheet A; sheet B of both kinds, and with a value at its check's price and above.
@@ -31,7 +38,7 @@ fn first_rows() {
     work(b"ending-0", &ONE, 0, 0, 0, LARGEST);
     work(b"ending-70-budget-1", &ONE, 11, 4, 70, 1);
     work(b"A", &A, 0, 0, 0, LARGEST);
-    carried_on();
+    carried_on(b"A-budget-2", b"A-carried-on", &A);
     work_b(b"B-worst", 0, 0, 0);
     work_b(b"B-whole", 3, 1, 1);
     ask_b(b"B-value-100-check", 11, 4, 100);
@@ -71,6 +78,21 @@ fn dearest_rows() {
     work(b"C-endings-0", &FREE_C, 0, 0, 0, LARGEST);
 }
 
+// Sheet D, one stage listed twice, of both kinds, carried on, and with a value at its check's price and above; the stage listed sixteen
+// times; sheet E, two stages listed several times, and with findings out of order, at their junction and at the number of stages.
+fn repeat_rows() {
+    work(b"D", &D, 0, 0, 0, LARGEST);
+    work(b"D-worst", &D, 3, 1, 0, LARGEST);
+    carried_on(b"D-budget-2", b"D-carried-on", &D);
+    ask(b"D-value-160-check", &VALUED_D, 0, 0, 0);
+    ask(b"D-value-161-check", &VALUED_D, 11, 4, 161);
+    work(b"cradles-16", &CRADLES_16, 0, 0, 0, LARGEST);
+    work(b"E", &E, 0, 0, 0, LARGEST);
+    work(b"E-findings-1-2-1", &APART_E, 0, 0, 0, LARGEST);
+    work(b"E-findings-0-0", &PAIR_E, 24, 4, 0, LARGEST);
+    work(b"E-findings-3-3", &PAIR_E, 24, 4, 0x00030003, LARGEST);
+}
+
 // Every row.
 pub fn rows() {
     first_rows();
@@ -78,4 +100,5 @@ pub fn rows() {
     last_rows();
     stage_rows();
     dearest_rows();
+    repeat_rows();
 }

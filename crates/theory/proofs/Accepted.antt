@@ -1,5 +1,5 @@
 -- Yes to questions 3 to 8 is what the theory supposes, and what work keeps.
-use Prim.Native.Nat.{ℕ, _<_, _≤_}
+use Prim.Native.Nat.{ℕ, _+_, _<_, _≤_}
 use mathlib.Core.Path.{_≡_, refl, ap, subst}
 use mathlib.Core.Bool.{Bool, true, false}
 use mathlib.Core.Logic.{_⊎_, inl, inr}
@@ -13,7 +13,7 @@ use Rattle.model.specs.Tests.{fork}
 use Rattle.model.specs.Problem.{Action, action, Node, terminal, decision, Problem, Cell, cell, states, nodeAt, actionAt}
 use Rattle.model.specs.Problem.{cellOf, solved, _∈_, here, there}
 use Rattle.model.specs.Limits.{ceiling, maxCost}
-use Rattle.model.specs.Questions.{costsInRange, chosenInRange, cellInRange, question5, ascending, successorsInOrder, question6}
+use Rattle.model.specs.Questions.{costsInRange, chosenInRange, cellInRange, question5, apart, ascending, successorsInOrder, question6}
 use Rattle.model.specs.Questions.{valueUnder, question7, allSolved, passedBy, markEarned, question8}
 use Rattle.layout.proofs.Shapes.{node-shaped, action-shaped, ascending-in}
 use Rattle.layout.specs.Shape.{NodeShaped, ChosenShaped}
@@ -38,11 +38,11 @@ unfolding allSolved
 solved-all cells [] h = refl
 solved-all cells (t ∷ ts) h = true-also _ _ (h t here) (solved-all cells ts (λ u m. h u (there m)))
 
-ascends : (low n : ℕ) (ts : List ℕ) → ascending low n ts ≡ true → Ascends ts
+ascends : (d low n : ℕ) (ts : List ℕ) → ascending d low n ts ≡ true → Ascends ts
 unfolding ascending
-ascends low n [] h = tt
-ascends low n (t ∷ ts) h =
-    let more = also-true _ _ h .1 in (λ u m. omega (arith, ascending-in t n ts more u m), ascends t n ts more)
+ascends d low n [] h = tt
+ascends d low n (t ∷ ts) h =
+    let more = also-true _ _ h .1 in (λ u m. omega (arith, ascending-in d (t + d) n ts more u m), ascends d (t + d) n ts more)
 
 chosen-zero : (n : Node) (c : Cell) → ChosenShaped n c → (cost : ℕ) → n ≡ terminal cost → c .chosen ≡ 0
 chosen-zero n c h cost e = subst (λ (m : Node). ChosenShaped m c) e h
@@ -59,7 +59,7 @@ module _ (p : Problem) (cells : List Cell) (h : Asked p cells) where
   unfolding question5
   five s l = let e = all-true _ (every-true (states p) _ (h .five) s l) in (e .0, e .1 .0)
 
-  six : (s : ℕ) → s < states p → successorsInOrder (states p) s (nodeAt p s) ≡ true
+  six : (s : ℕ) → s < states p → successorsInOrder (apart (p .kind)) (states p) s (nodeAt p s) ≡ true
   unfolding question6
   six s l = every-true (states p) _ (h .six) s l
 
@@ -71,14 +71,14 @@ module _ (p : Problem) (cells : List Cell) (h : Asked p cells) where
     capped = λ s cost e. cap s cost e (lt-or-le s (states p));
     forward = λ s i t acts e m. ahead s i t acts e m (lt-or-le i (length acts));
     ordered = λ s i acts e l.
-        (action-shaped acts i l (shape s acts e .1) .0, ascends s (states p) (actionAt acts i .successors) (in-order s i acts e l));
+        (action-shaped acts i l (shape s acts e .1) .0, ascends (apart (p .kind)) (s + 1) (states p) _ (in-order s i acts e l));
   }
     where
       shape : (s : ℕ) (acts : List Action) → nodeAt p s ≡ decision acts → NodeShaped (decision acts)
       shape s acts e = subst NodeShaped e (node-shaped (p .nodes) (h .shaped .nodes) s)
 
       in-order : (s i : ℕ) (acts : List Action) → nodeAt p s ≡ decision acts → i < length acts →
-          ascending s (states p) (actionAt acts i .successors) ≡ true
+          ascending (apart (p .kind)) (s + 1) (states p) (actionAt acts i .successors) ≡ true
       in-order s i acts e l = every-true (length acts) _ (rw e at (six s (is-state s acts e))) i l
 
       cap : (s cost : ℕ) → nodeAt p s ≡ terminal cost → (s < states p) ⊎ (states p ≤ s) → cost ≤ ceiling
@@ -87,7 +87,8 @@ module _ (p : Problem) (cells : List Cell) (h : Asked p cells) where
 
       ahead : (s i t : ℕ) (acts : List Action) → nodeAt p s ≡ decision acts → t ∈ actionAt acts i .successors →
           (i < length acts) ⊎ (length acts ≤ i) → (s < t) × (t < states p)
-      ahead s i t acts e m (inl l) = ascending-in s (states p) (actionAt acts i .successors) (in-order s i acts e l) t m
+      ahead s i t acts e m (inl l) =
+          let (low, high) = ascending-in (apart (p .kind)) (s + 1) (states p) _ (in-order s i acts e l) t m in (omega arith, high)
       ahead s i t acts e m (inr le) =
           absurd (none (subst (λ (a : Action). t ∈ a .successors) (List·getD-eq-default acts (action 0 []) {n = i} le) m))
         where

@@ -1,5 +1,5 @@
 -- Not vacuous: sheet A, by its literal bytes, is accepted, and a list of calls on it, two of them refused, ends settled at 500.
-use Prim.Native.Nat.{ℕ, _+_, _<_, _≤_}
+use Prim.Native.Nat.{ℕ, _+_, _*_, _<_, _≤_}
 use mathlib.Core.Path.{_≡_, refl}
 use mathlib.Core.Bool.{true}
 use mathlib.Core.Logic.{_⊎_, inl, inr}
@@ -10,18 +10,23 @@ use lib.Dec.{lit<, ltb}
 use lib.ListN.{length, getD, List·getD-eq-default}
 use Rattle.model.proofs.TestLaws.{every-true}
 use Rattle.model.specs.Tests.{every}
-use Rattle.model.specs.Problem.{valueOf}
+use Rattle.model.specs.Problem.{action, valueOf}
 use Rattle.model.specs.Limits.{maxStates}
 use Rattle.model.specs.Format.{Bytes}
 use Rattle.model.specs.Read.{problemOf, cellsOf}
-use Rattle.model.specs.Questions.{refusalUnder}
+use Rattle.model.specs.QValue.{cut}
+use Rattle.model.specs.Questions.{refusal, refusalUnder}
+use Rattle.model.specs.Earlier.{strictRefusal}
+use Rattle.model.specs.Optimal.{optimal}
 use Rattle.model.proofs.Computing.{computing}
 use Rattle.model.specs.Report.{bytesAfter, largest}
 use Rattle.model.specs.Calls.{Call, callOn, Calls, none, one, left}
-use Rattle.model.specs.Demands.{Accepted, Best, Demand3, Raised}
-use Rattle.model.specs.Rows.{sheetA}
+use Rattle.model.specs.Demands.{Accepted, Best, Demand3, Raised, Loosened}
+use Rattle.model.specs.Rows.{sheetA, sheetC, sheetD}
 use Rattle.theory.proofs.Basics.{lt-or-le}
 use Rattle.theory.proofs.Limits.{accepted-before, limit-raised}
+use Rattle.theory.proofs.Loosened.{order-loosened}
+use Rattle.theory.proofs.Promises.{settled-pays}
 use Rattle.theory.proofs.Demands.{demand3}
 
 -- budget 2, then a table that is too short, then budget 0, then the largest
@@ -68,6 +73,28 @@ price-A = refl
 pub best-A : Best (problemOf sheetA) (cellsOf (left sheetA callsA))
 unfolding computing left
 best-A = demand-A .best refl (lit< tt)
+
+-- Sheet D lists one stage twice. The order that question 6 once asked for refused it, and it is accepted; sheet C, which is whole too and
+-- lists none twice, was accepted then, and keeps what it had.
+pub strict-D : (strictRefusal maxStates (sheetD 1 0 0) maxStates largest ≡ 6) × (refusal (sheetD 1 0 0) maxStates largest ≡ 0)
+unfolding computing
+strict-D = (refl, refl)
+
+pub loosened-C : Loosened maxStates (sheetC 1 10 40 40 20)
+unfolding computing
+loosened-C = order-loosened maxStates (sheetC 1 10 40 40 20) refl
+
+-- D's one check costs 100 and twice what stage 1 costs, by least costs; worked to the end, that is the start's value, 160
+abbrev workedD : List ℕ
+workedD = bytesAfter (sheetD 1 0 0) maxStates largest
+
+pub accepted-D : Accepted workedD
+unfolding computing
+accepted-D = record { bytes = tested workedD refl; yes = refl }
+
+pub pays-D : (valueOf (cellsOf workedD) 0 ≡ 160) × (160 ≡ cut (100 + 2 * optimal (problemOf workedD) 1))
+unfolding computing
+pays-D = (refl, settled-pays workedD accepted-D refl 0 0 2 1 (action 100 (1 ∷ 1 ∷ []) ∷ []) refl refl refl refl)
 
 -- A limit of 4 accepts sheet A, which has as many stages, and one of 3 refuses it; so a raised limit speaks of it
 pub limits-A : (refusalUnder 3 sheetA 3 largest ≡ 3) × (refusalUnder 4 sheetA 4 largest ≡ 0)

@@ -4,6 +4,7 @@ pub mod DearestLaws
 pub mod Bellman
 pub mod PolicyLaws
 pub mod Admissible
+pub mod Repeats
 pub mod Facts
 pub mod Leads
 pub mod Visits
@@ -13,6 +14,7 @@ pub mod Refusals
 pub mod LimitLaws
 pub mod Sheets
 pub mod Limits
+pub mod Loosened
 pub mod Called
 pub mod Outcomes
 pub mod Promises

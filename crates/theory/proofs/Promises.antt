@@ -2,14 +2,15 @@
 use Prim.Native.Nat.{ℕ, zero, suc, _+_, _*_, _<_, _≤_}
 use mathlib.Core.Path.{_≡_, refl}
 use mathlib.Core.Bool.{true}
+use mathlib.Core.Option.{some}
 use mathlib.Core.List.{List}
 use native.Mathlib.Omega.{arith}
-use lib.ListN.{length}
-use Rattle.model.specs.Problem.{Action, decision, Problem, Cell, states, nodeAt, actionAt, cellOf, valueOf, solved}
+use lib.ListN.{length, replicate}
+use Rattle.model.specs.Problem.{whole, Action, decision, Problem, Cell, states, nodeAt, actionAt, cellOf, valueOf, solved}
 use Rattle.model.specs.Format.{Bytes}
 use Rattle.model.specs.Read.{problemOf, cellsOf}
 use Rattle.model.specs.Limits.{ceiling, manyRaises}
-use Rattle.model.specs.QValue.{cut, dearest, Dearest}
+use Rattle.model.specs.QValue.{cut, qFull, q, dearest, Dearest}
 use Rattle.model.specs.Questions.{refusal}
 use Rattle.model.specs.Optimal.{bellman, bellmanCut, optimal, sumBelow, gap, gaps}
 use Rattle.model.specs.Policy.{Policy, Closed, policyCost, written}
@@ -22,6 +23,7 @@ use Rattle.theory.proofs.DearestLaws.{action-dearest, dearest-only}
 use Rattle.theory.proofs.Bellman.{optimal-solves, optimal-only, optimal-cut}
 use Rattle.theory.proofs.PolicyLaws.{optimal-least, greedy, greedy-closed, greedy-attains}
 use Rattle.theory.proofs.Admissible.{monotone, below-optimal, solved-cost}
+use Rattle.theory.proofs.Repeats.{only-counts, only-priced, policy-pays, solved-pays}
 use Rattle.theory.proofs.Accepted.{asked-problem, asked-cells}
 use Rattle.theory.proofs.Sheets.{Stands, accepted-stands, stands-problem, stands-accepted, unrefused}
 use Rattle.theory.proofs.Called.{answer-refused, Kept, Called, call-does}
@@ -88,7 +90,27 @@ module _ (s : List ℕ) (acc : Accepted s) where
   dearest-of t i acts e l v =
       let is = action-dearest (problemOf s) wf t i acts e l v in (is, dearest-only v is)
 
-  -- 5: gaps, and with them the raises of all calls, are no more than there are states, times the ceiling, and so few
+  -- 5: S2.10, where the sheet is whole and action i of decision t lists the state u n times and no other: it costs its cost plus n times
+  -- what u costs, by V* and by any values; that is its price, up to the ceiling; a policy that takes it costs so much; and where the
+  -- decision is solved by it, that is the decision's value, by V* and cut
+  module _ (is : problemOf s .kind ≡ whole) (t i n u : ℕ) (acts : List Action) (node : nodeAt (problemOf s) t ≡ decision acts)
+      (only : actionAt acts i .successors ≡ replicate n u) where
+    pub check-pays : (v : ℕ → ℕ) → qFull (problemOf s .kind) v (actionAt acts i) ≡ actionAt acts i .cost + n * v u
+    check-pays = only-counts (problemOf s .kind) is (actionAt acts i) n u only
+
+    pub price-pays : (v : ℕ → ℕ) → actionAt acts i .cost + n * v u ≤ ceiling →
+        q (problemOf s .kind) v (actionAt acts i) ≡ actionAt acts i .cost + n * v u
+    price-pays = only-priced (problemOf s .kind) is (actionAt acts i) n u only
+
+    pub plan-pays : (π : Policy) → π t ≡ some i →
+        policyCost (problemOf s) π t ≡ actionAt acts i .cost + n * policyCost (problemOf s) π u
+    plan-pays = policy-pays (problemOf s) wf is t i n u acts node only
+
+    pub settled-pays : solved (cellOf (cellsOf s) t) ≡ true → cellOf (cellsOf s) t .chosen ≡ i →
+        valueOf (cellsOf s) t ≡ cut (actionAt acts i .cost + n * optimal (problemOf s) u)
+    settled-pays = solved-pays (problemOf s) wf is t i n u acts node only (cellsOf s) (cells-of stands)
+
+  -- 6: gaps, and with them the raises of all calls, are no more than there are states, times the ceiling, and so few
   pub gaps-within : gaps (problemOf s) (cellsOf s) ≤ states (problemOf s) * ceiling
   gaps-within = sum-bounded (gap (problemOf s) (cellsOf s)) ceiling (λ t. omega arith) (states (problemOf s))
 
@@ -100,11 +122,11 @@ module _ (s : List ℕ) (acc : Accepted s) where
     called : Called s (problemOf s) (cellsOf s) entries budget
     called = call-does s (problemOf s) (cellsOf s) stands entries budget
 
-    -- 6: raises are at most the gaps
+    -- 7: raises are at most the gaps
     pub raises-few : answerTo s entries budget .raises ≤ gaps (problemOf s) (cellsOf s)
     raises-few = omega (arith, raises-gaps s _ (problemOf s) (cellsOf s) (called .next) _ stands (called .stands) (called .kept))
 
-    -- 7: the bytes after it pass questions 2 to 8 again, with the same problem
+    -- 8: the bytes after it pass questions 2 to 8 again, with the same problem
     pub still-a-sheet : Accepted (bytesAfter s entries budget) × (problemOf (bytesAfter s entries budget) ≡ problemOf s)
     still-a-sheet = (
       record { bytes = called .stands .bytes; yes = stands-accepted _ (problemOf s) (called .next) (called .stands) },

@@ -238,13 +238,13 @@ impl Search<'_> {
         }
         let mut action = self.first_action(state);
         while self.action_here(action) {
-            let mut before = state;
+            let mut least = state + 1;
             for i in 0..self.successors(action) {
                 let successor = self.successor(action, i);
-                if successor <= before || successor >= self.states {
+                if successor < least || successor >= self.states {
                     return false;
                 }
-                before = successor;
+                least = if self.whole { successor } else { successor + 1 };
             }
             action = self.next_action(action);
         }

@@ -4,14 +4,17 @@ use crate::calls::{Call, ENTRY_BYTES, FORMER_TABLE_BYTES, TABLE_BYTES};
 use crate::coverage::Coverage;
 use crate::draft::{FEW_STATES, FORMER_MOST, MOST_STATES};
 use crate::lent::Lent;
-use sweep::{Node, Sheet, CEILING};
+use crate::repeats;
+use sweep::{Action, Node, Sheet, CEILING};
 
 /// Makes the calls one after another, each on the bytes that the last one left, and compares everything that each of them leaves.
 /// The error says what differs.
 pub fn run(outset: &[u8], calls: &[Call], seen: &mut Coverage) -> Result<(), String> {
     let mut bytes = outset.to_vec();
     let mut raises = 0;
-    let mut stopped_before = false;
+    let (mut stopped_before, mut carried_on) = (false, false);
+    // What the calls returned: 100 or more where the sheet was worked, and on a refused sheet its question's number.
+    let mut highest = 0;
     for (place, call) in calls.iter().enumerate() {
         let before = bytes.clone();
         let answer = one(&mut bytes, call).map_err(|why| format!("call {place}, budget {}: {why}", call.budget))?;
@@ -19,12 +22,20 @@ pub fn run(outset: &[u8], calls: &[Call], seen: &mut Coverage) -> Result<(), Str
         budget_is_spent(call, &answer)?;
         raises += answer.raises;
         count(call, &answer, &before, stopped_before, seen);
+        carried_on |= stopped_before && answer.number >= 100;
         stopped_before = answer.number == 102;
+        highest = highest.max(answer.number);
     }
-    if let Ok(first) = sweep::read(outset) {
-        let last = sweep::read(&bytes).map_err(|number| format!("a worked sheet is refused {number}"))?;
-        worked(&first, &last, raises)?;
-        count_sheet(outset, &first, &last, seen);
+    let Ok(first) = sweep::read(outset) else {
+        repeats::count_refused(outset, highest, seen);
+        return Ok(());
+    };
+    let last = sweep::read(&bytes).map_err(|number| format!("a worked sheet is refused {number}"))?;
+    worked(&first, &last, raises)?;
+    count_sheet(outset, &first, &last, seen);
+    seen.add("repeats: one finding n times costs n times", repeats::multiplied(&last)?);
+    if highest >= 100 {
+        repeats::count(&first, &last, carried_on, seen);
     }
     Ok(())
 }
@@ -198,7 +209,7 @@ fn count_sheet(outset: &[u8], first: &Sheet, last: &Sheet, seen: &mut Coverage) 
 }
 
 /// Has work settled a state?
-fn settled(first: &Sheet, last: &Sheet, state: usize) -> bool {
+pub fn settled(first: &Sheet, last: &Sheet, state: usize) -> bool {
     last.solved(state) && !first.solved(state)
 }
 
@@ -215,7 +226,7 @@ fn depth(sheet: &Sheet) -> usize {
     above.into_iter().max().unwrap_or(0)
 }
 
-fn actions(sheet: &Sheet) -> impl Iterator<Item = &sweep::Action> {
+pub fn actions(sheet: &Sheet) -> impl Iterator<Item = &Action> {
     sheet.nodes.iter().flat_map(|node| match node {
         Node::Terminal(_) => &[],
         Node::Decision(actions) => &actions[..],
@@ -223,7 +234,7 @@ fn actions(sheet: &Sheet) -> impl Iterator<Item = &sweep::Action> {
 }
 
 /// Cost plus values, uncut.
-fn sum(sheet: &Sheet, action: &sweep::Action) -> u64 {
+pub fn sum(sheet: &Sheet, action: &Action) -> u64 {
     action.cost + action.successors.iter().map(|&t| sheet.cells[t].value).sum::<u64>()
 }
 

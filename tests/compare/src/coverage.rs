@@ -3,7 +3,7 @@
 use std::collections::BTreeMap;
 
 /// A long run must have each of these.
-const WANTED: [&str; 45] = [
+const WANTED: [&str; 70] = [
     "refused 1",
     "refused 2",
     "refused 3",
@@ -49,10 +49,35 @@ const WANTED: [&str; 45] = [
     "result shorter than 24",
     "result longer than 24",
     "accepted although damaged",
+    "repeats: 4,096 states",
+    "repeats: a finding listed twice",
+    "repeats: a finding listed 3 to 15 times",
+    "repeats: a finding listed 16 times",
+    "repeats: two groups in one check",
+    "repeats: three or more groups in one check",
+    "repeats: of a junction",
+    "repeats: of an ending",
+    "repeats: five within one another",
+    "repeats: partly worked at the outset",
+    "repeats: worked to settled",
+    "repeats: worked to settled with more than 256 states",
+    "repeats: worked to over",
+    "repeats: stopped and carried on",
+    "repeats: a price one cent below the ceiling",
+    "repeats: a price of the ceiling to the cent",
+    "repeats: sum above 32 bits",
+    "repeats: one finding n times costs n times",
+    "refused 6: equal findings on a worst sheet, and nothing else",
+    "refused 6: equal findings apart on a whole sheet",
+    "refused 6: equal findings before a smaller one on a whole sheet",
+    "refused 6: equal findings at their junction's number on a whole sheet",
+    "refused 6: equal findings at the number of stages on a whole sheet",
+    "refused 7: a repeated finding counted once more",
+    "refused 8: a repeated finding counted once less",
 ];
 
 /// Wanted too where a `price` program is given.
-const WANTED_OF_PRICE: [&str; 8] = [
+const WANTED_OF_PRICE: [&str; 11] = [
     "price: settled",
     "price: over",
     "price: refused",
@@ -60,6 +85,9 @@ const WANTED_OF_PRICE: [&str; 8] = [
     "price: by where two findings share the largest value",
     "price: by that is neither the first nor the last finding",
     "price: by that is not the dearest finding of check 0",
+    "price: a chosen check that lists a stage more than once",
+    "price: by that is listed more than once",
+    "price: by where a repeated finding shares the largest value",
     "price: run along by adds up to the price",
 ];
 

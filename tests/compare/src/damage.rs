@@ -1,10 +1,13 @@
 //! Damage. Each question is tried on both sides of its boundary, in the draft; then bytes are flipped, cut off and added.
 
-use crate::draft::{Draft, Node, FEW_STATES, FORMER_MOST, MOST_STATES};
+use crate::draft::{Action, Draft, Node, FEW_STATES, FORMER_MOST, MOST_STATES};
+use crate::groups;
 use crate::rng::Rng;
 
+type InDraft = fn(&mut Draft, &mut Rng);
+
 /// Damages of a draft, in the order of the questions that they are about. The late ones stand there more than once: they miss often.
-const IN_DRAFT: [fn(&mut Draft, &mut Rng); 18] = [
+const IN_DRAFT: [InDraft; 22] = [
     kind,
     count,
     start,
@@ -15,21 +18,31 @@ const IN_DRAFT: [fn(&mut Draft, &mut Rng); 18] = [
     value_range,
     mark_range,
     chosen_range,
+    finding_bounds,
+    finding_bounds,
+    finding_repeated,
     finding_order,
     finding_order,
     value_above,
     value_above,
+    value_miscounted,
     mark_unearned,
     mark_unearned,
     mark_unearned,
     mark_unearned,
 ];
 
+/// Where findings are listed several times, it is mostly one of these.
+const OF_REPEATS: [InDraft; 5] = [finding_bounds, finding_order, finding_order, value_miscounted, value_miscounted];
+
 /// Damages of bytes.
 const IN_BYTES: [fn(&mut Vec<u8>, &mut Rng); 7] = [flip, cut, extend, size_limits, tag, length, repeat_field];
 
 /// One damage of the draft, or several: the first question that is answered no decides.
 pub fn draft(draft: &mut Draft, rng: &mut Rng) {
+    if groups::any(draft) && !rng.one_in(4) {
+        return rng.pick(&OF_REPEATS)(draft, rng);
+    }
     for _ in 0..rng.pick(&[1, 1, 2, 3, 6]) {
         rng.pick(&IN_DRAFT)(draft, rng);
     }
@@ -117,24 +130,63 @@ fn chosen_range(draft: &mut Draft, rng: &mut Rng) {
 
 // Question 6.
 
-fn finding_order(draft: &mut Draft, rng: &mut Rng) {
-    let states = draft.states.len() as u16;
-    let Some((number, actions)) = decision(draft, rng) else { return };
+/// The first findings at their junction's number, or the last at the number of stages; or just within.
+fn finding_bounds(draft: &mut Draft, rng: &mut Rng) {
+    let (states, room) = (draft.states.len() as u16, groups::room(draft));
+    let Some((number, successors)) = findings(draft, rng, |_| true) else { return };
     let own = number as u16;
-    let place = rng.below(actions.len());
-    let successors = &mut actions[place].successors;
-    if successors.is_empty() {
-        return;
+    if rng.one_in(2) {
+        groups::repeat(successors, rng, room);
     }
-    let last = successors.len() - 1;
-    match rng.below(6) {
-        0 => successors[0] = own,
-        1 => successors[0] = own + 1,
-        2 => successors[0] = own.saturating_sub(1),
-        3 => successors[last] = rng.pick(&[states - 1, states, u16::MAX]),
-        4 => successors[last] = successors[last.saturating_sub(1)],
-        _ => successors.swap(0, last),
+    let count = successors.len();
+    let some = count.min(rng.pick(&[1, 2, 2, count]));
+    if rng.one_in(2) {
+        successors[..some].fill(rng.pick(&[own, own, own + 1, own.saturating_sub(1)]));
+    } else {
+        successors[count - some..].fill(rng.pick(&[states, states, states - 1, u16::MAX]));
     }
+}
+
+/// Equal findings side by side, which only a worst sheet is refused for.
+fn finding_repeated(draft: &mut Draft, rng: &mut Rng) {
+    let room = groups::room(draft);
+    if let Some((_, successors)) = findings(draft, rng, |_| true) {
+        groups::repeat(successors, rng, room);
+    }
+}
+
+/// Two findings change places, or those that are smaller than one go behind it: equal ones come apart, or stand before a smaller one.
+fn finding_order(draft: &mut Draft, rng: &mut Rng) {
+    let room = groups::room(draft);
+    let Some((_, successors)) = findings(draft, rng, |list| list.first() != list.last()) else { return };
+    if rng.one_in(2) {
+        groups::repeat(successors, rng, room);
+    }
+    let (place, other) = (rng.below(successors.len()), rng.below(successors.len()));
+    let smaller = successors.iter().position(|&t| t == successors[place]).unwrap_or(0);
+    match rng.below(4) {
+        0 => successors.swap(place, other),
+        1 => successors.swap(place, place.saturating_sub(1)),
+        _ => successors.rotate_left(smaller),
+    }
+}
+
+/// The findings of a check that has any and is wanted, and its junction's number, at random.
+fn findings<'a>(draft: &'a mut Draft, rng: &mut Rng, wanted: fn(&[u16]) -> bool) -> Option<(usize, &'a mut Vec<u16>)> {
+    let mut all = Vec::new();
+    for (number, state) in draft.states.iter_mut().enumerate() {
+        let Node::Decision(actions) = &mut state.node else { continue };
+        for Action { successors, .. } in actions {
+            if !successors.is_empty() && wanted(successors) {
+                all.push((number, successors));
+            }
+        }
+    }
+    if all.is_empty() {
+        return None;
+    }
+    let place = rng.below(all.len());
+    Some(all.swap_remove(place))
 }
 
 // Questions 7 and 8. Prices are asked only where every successor is there.
@@ -143,6 +195,34 @@ fn value_above(draft: &mut Draft, rng: &mut Rng) {
     let number = rng.below(draft.states.len());
     let Some(top) = top(draft, number) else { return };
     draft.states[number].value = top + rng.pick(&[0, 1, 1, 100]);
+}
+
+/// The value of a junction, a settled one if there is any, as if a finding that its chosen check repeats were listed once more or once
+/// less. Stages before it become unworked: they may lead to it, and would be wrong too.
+fn value_miscounted(draft: &mut Draft, rng: &mut Rng) {
+    let repeating: Vec<usize> = (0..draft.states.len()).filter(|&s| repeated(draft, s).is_some()).collect();
+    let settled: Vec<usize> = repeating.iter().copied().filter(|&s| draft.states[s].mark == 1).collect();
+    let drawn = if settled.is_empty() { repeating } else { settled };
+    if drawn.is_empty() {
+        return;
+    }
+    let number = rng.pick(&drawn);
+    let (Some(_), Some((action, finding))) = (top(draft, number), repeated(draft, number)) else { return };
+    let (price, each) = (draft.price(action) as u32, draft.states[usize::from(finding)].value);
+    draft.states[number].value = if rng.one_in(3) { price.saturating_add(each) } else { price.saturating_sub(each) };
+    for state in &mut draft.states[..number] {
+        (state.value, state.mark, state.chosen) = (0, 0, 0);
+    }
+}
+
+/// A junction's chosen check, and the first finding that it repeats and that has a value.
+fn repeated(draft: &Draft, number: usize) -> Option<(&Action, u16)> {
+    let state = &draft.states[number];
+    let Node::Decision(actions) = &state.node else { return None };
+    let action = actions.get(usize::from(state.chosen))?;
+    let valued = |t: u16| draft.states.get(usize::from(t)).is_some_and(|state| state.value > 0);
+    let pair = action.successors.windows(2).find(|pair| pair[0] == pair[1] && valued(pair[0]))?;
+    Some((action, pair[0]))
 }
 
 fn mark_unearned(draft: &mut Draft, rng: &mut Rng) {
@@ -173,7 +253,7 @@ fn top(draft: &Draft, number: usize) -> Option<u32> {
 }
 
 /// A decision with actions, at random, if the state that is drawn is one.
-fn decision<'a>(draft: &'a mut Draft, rng: &mut Rng) -> Option<(usize, &'a mut Vec<crate::draft::Action>)> {
+fn decision<'a>(draft: &'a mut Draft, rng: &mut Rng) -> Option<(usize, &'a mut Vec<Action>)> {
     let number = rng.below(draft.states.len());
     match &mut draft.states[number].node {
         Node::Decision(actions) if !actions.is_empty() => Some((number, actions)),

@@ -1,6 +1,7 @@
 //! What the junctions had that `price` lists, as to their dearest findings (S2.9). It is taken from the worked sheet, not from the text.
 
 use crate::coverage::Coverage;
+use crate::repeats;
 use std::collections::BTreeSet;
 use sweep::{Action, Node, Sheet};
 
@@ -15,27 +16,35 @@ pub fn count(sheet: &Sheet, seen: &mut Coverage) {
     had.into_iter().for_each(|fact| seen.saw(fact));
 }
 
-/// What a junction had, by its chosen check and its first.
+/// What a junction had, by its chosen check and its first. A finding that is listed several times is one finding.
 fn facts(sheet: &Sheet, chosen: &Action, first: &Action) -> impl Iterator<Item = &'static str> {
-    let places = largest(sheet, chosen);
-    let last = chosen.successors.len() - 1;
+    let (findings, dearest) = (distinct(chosen), largest(sheet, chosen));
+    let by = dearest[0];
+    let groups = repeats::groups(chosen);
+    let repeated = |finding: &usize| groups.iter().any(|(listed, _)| listed == finding);
+    let inside = findings.first() != Some(&by) && findings.last() != Some(&by);
     let facts = [
         (true, "price: a junction's line"),
         (sheet.whole, "price: by on a whole sheet"),
-        (places.len() > 1, "price: by where two findings share the largest value"),
-        (0 < places[0] && places[0] < last, "price: by that is neither the first nor the last finding"),
-        (dearest(sheet, chosen) != dearest(sheet, first), "price: by that is not the dearest finding of check 0"),
+        (dearest.len() > 1, "price: by where two findings share the largest value"),
+        (inside, "price: by that is neither the first nor the last finding"),
+        (by != largest(sheet, first)[0], "price: by that is not the dearest finding of check 0"),
+        (!groups.is_empty(), "price: a chosen check that lists a stage more than once"),
+        (repeated(&by), "price: by that is listed more than once"),
+        (dearest.len() > 1 && dearest.iter().any(repeated), "price: by where a repeated finding shares the largest value"),
     ];
     facts.into_iter().filter(|(holds, _)| *holds).map(|(_, fact)| fact)
 }
 
-/// The places among a check's findings where the largest value stands.
-fn largest(sheet: &Sheet, action: &Action) -> Vec<usize> {
-    let values: Vec<u64> = action.successors.iter().map(|&t| sheet.cells[t].value).collect();
-    let most = values.iter().max();
-    (0..values.len()).filter(|&place| Some(&values[place]) == most).collect()
+/// A check's findings, each once.
+fn distinct(action: &Action) -> Vec<usize> {
+    action.successors.iter().copied().collect::<BTreeSet<_>>().into_iter().collect()
 }
 
-fn dearest(sheet: &Sheet, action: &Action) -> usize {
-    action.successors[largest(sheet, action)[0]]
+/// Those of a check's findings that have the largest value, each once, ascending.
+fn largest(sheet: &Sheet, action: &Action) -> Vec<usize> {
+    let value = |&t: &usize| sheet.cells[t].value;
+    let findings = distinct(action);
+    let most = findings.iter().map(value).max();
+    findings.into_iter().filter(|t| Some(value(t)) == most).collect()
 }

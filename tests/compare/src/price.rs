@@ -1,7 +1,7 @@
 //! The `price` program, run on a sheet and compared with the lines of `procedure`.
 
 use crate::coverage::Coverage;
-use crate::{dearest, run};
+use crate::{dearest, lines, run};
 use std::io::Write;
 use std::process::{Command, Output, Stdio};
 use sweep::Sheet;
@@ -15,6 +15,9 @@ pub fn compare(program: &str, bytes: &[u8], worked: &[u8], seen: &mut Coverage) 
     seen.saw(&format!("price: {word}"));
     if word == "settled" {
         let sheet = sweep::read(worked).map_err(|number| format!("a worked sheet is refused {number}"))?;
+        if lines::stages(&printed)? != sheet.plan_states() {
+            return Err("price printed lines of other stages than the plan reaches".to_string());
+        }
         dearest::count(&sheet, seen);
         follow(&printed, &sheet, seen)?;
     }

@@ -42,6 +42,19 @@ fn sheet_c(kind: u8, costs: [u32; 4]) -> Draft {
     Draft::new(kind, 0, nodes)
 }
 
+fn sheet_d(kind: u8, findings: &[u16]) -> Draft {
+    Draft::new(kind, 0, vec![Node::Decision(vec![check(100, findings)]), Node::Terminal(30)])
+}
+
+/// D with values, all open.
+fn sheet_d_at(junction: u32, ending: u32) -> Vec<u8> {
+    but(sheet_d(1, &[1, 1]), |d| (d.states[0].value, d.states[1].value) = (junction, ending))
+}
+
+fn sheet_e(findings: &[u16]) -> Draft {
+    Draft::new(1, 0, vec![Node::Decision(vec![check(10, findings)]), Node::Terminal(5), Node::Terminal(7)])
+}
+
 fn one_ending(cost: u32) -> Draft {
     Draft::new(0, 0, vec![Node::Terminal(cost)])
 }
@@ -89,10 +102,19 @@ fn bad_cost_and_cut() -> Vec<u8> {
 /// The costs of the endings of sheet C.
 const COSTS_OF_C: [u32; 4] = [10, 40, 40, 20];
 
-/// What `price` prints for A, whole, and behind the line of stage 0 for C.
+/// What `price` prints for A, D and E, whole, and behind the line of stage 0 for C.
 const LINES_OF_A: &str = "settled 500 3 3
 stage 0 check 1 value 500 by 3
 stage 3 end value 0
+";
+const LINES_OF_D: &str = "settled 160 3 3
+stage 0 check 0 value 160 by 1
+stage 1 end value 30
+";
+const LINES_OF_E: &str = "settled 41 4 5
+stage 0 check 0 value 41 by 2
+stage 1 end value 5
+stage 2 end value 7
 ";
 const ENDINGS_OF_C: &str = "stage 1 end value 10
 stage 2 end value 40
@@ -105,11 +127,27 @@ stage 3 end value 0
 stage 4 end value 0
 ";
 
-/// Puts every row to all three, and sheets A and C to the `price` program if there is one. The error says what the row gave.
+/// A row: its name, the sheet, the budget, and what it says.
+type Row = (&'static str, Vec<u8>, u64, Expected);
+
+/// Puts every row to all three, and sheets A, C, D and E to the `price` program if there is one. The error says what the row gave.
 pub fn run(price: Option<&str>) -> Result<Coverage, String> {
     let mut seen = Coverage::default();
     let a_stopped = call("A, budget 2", &sheet_a().bytes(), 2, Answer(102, 200, 2, 2))?;
-    let rows = [
+    let d_stopped = call("D, budget 2", &sheet_d(1, &[1, 1]).bytes(), 2, Answer(102, 100, 2, 2))?;
+    let rows: Vec<Row> = rows_of_a_to_c(a_stopped).into_iter().chain(rows_of_repeats(d_stopped)).collect();
+    seen.add("worked examples", 2 + rows.len() as u64);
+    for (name, bytes, budget, expected) in rows {
+        call(name, &bytes, budget, expected)?;
+    }
+    if let Some(program) = price {
+        printed(program)?;
+    }
+    Ok(seen)
+}
+
+fn rows_of_a_to_c(a_stopped: Vec<u8>) -> Vec<Row> {
+    vec![
         ("one ending, cost 0", one_ending(0).bytes(), LARGEST, Answer(100, 0, 1, 0)),
         ("one ending, cost 70, budget 1", one_ending(70).bytes(), 1, Answer(100, 70, 1, 1)),
         ("A", sheet_a().bytes(), LARGEST, Answer(100, 500, 3, 3)),
@@ -132,15 +170,23 @@ pub fn run(price: Option<&str>) -> Result<Coverage, String> {
         ("C worst", sheet_c(0, COSTS_OF_C).bytes(), LARGEST, Answer(100, 50, 4, 7)),
         ("C whole", sheet_c(1, COSTS_OF_C).bytes(), LARGEST, Answer(100, 120, 6, 9)),
         ("C with every ending's cost 0", sheet_c(0, [0; 4]).bytes(), LARGEST, Answer(100, 10, 2, 1)),
-    ];
-    seen.add("worked examples", 1 + rows.len() as u64);
-    for (name, bytes, budget, expected) in rows {
-        call(name, &bytes, budget, expected)?;
-    }
-    if let Some(program) = price {
-        printed(program)?;
-    }
-    Ok(seen)
+    ]
+}
+
+/// S11.23 to S11.29.
+fn rows_of_repeats(d_stopped: Vec<u8>) -> Vec<Row> {
+    vec![
+        ("D", sheet_d(1, &[1, 1]).bytes(), LARGEST, Answer(100, 160, 3, 3)),
+        ("D, kind worst", sheet_d(0, &[1, 1]).bytes(), LARGEST, refused(6)),
+        ("D, budget 2, carried on", d_stopped, LARGEST, Answer(100, 160, 2, 1)),
+        ("D, ending 1 at 30 and junction 0 at 160", sheet_d_at(160, 30), LARGEST, Accepted),
+        ("D, ending 1 at 30 and junction 0 at 161", sheet_d_at(161, 30), LARGEST, refused(7)),
+        ("D, finding 1 listed 16 times", sheet_d(1, &[1; 16]).bytes(), LARGEST, Answer(100, 580, 3, 3)),
+        ("E", sheet_e(&[1, 1, 2, 2, 2]).bytes(), LARGEST, Answer(100, 41, 4, 5)),
+        ("E, findings 1, 2 and 1", sheet_e(&[1, 2, 1]).bytes(), LARGEST, refused(6)),
+        ("E, findings 0 and 0", sheet_e(&[0, 0]).bytes(), LARGEST, refused(6)),
+        ("E, findings 3 and 3", sheet_e(&[3, 3]).bytes(), LARGEST, refused(6)),
+    ]
 }
 
 fn printed(program: &str) -> Result<(), String> {
@@ -149,6 +195,8 @@ fn printed(program: &str) -> Result<(), String> {
         ("C worst", sheet_c(0, COSTS_OF_C), "settled 50 4 7\nstage 0 check 0 value 50 by 2\n", ENDINGS_OF_C),
         ("C whole", sheet_c(1, COSTS_OF_C), "settled 120 6 9\nstage 0 check 0 value 120 by 2\n", ENDINGS_OF_C),
         ("C with every ending's cost 0", sheet_c(0, [0; 4]), "settled 10 2 1\nstage 0 check 0 value 10 by 1\n", ENDINGS_WITHOUT_COSTS),
+        ("D", sheet_d(1, &[1, 1]), LINES_OF_D, ""),
+        ("E", sheet_e(&[1, 1, 2, 2, 2]), LINES_OF_E, ""),
     ];
     for (name, draft, first, endings) in texts {
         println!("at row '{name}', printed");

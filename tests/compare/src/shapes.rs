@@ -1,12 +1,12 @@
 //! The problems: which states there are and how they hang together. They are good problems, but for a few sheets that have one byte or
 //! one state too many; damage comes later.
 
-use crate::draft::{size, Action, Draft, Node, FEW_STATES, FORMER_MOST, HEAD_BYTES, MOST_STATES, TERMINAL_BYTES};
+use crate::draft::{size, Action, Draft, Node, CEILING, FEW_STATES, FORMER_MOST, HEAD_BYTES, MOST_STATES, TERMINAL_BYTES};
 use crate::rng::Rng;
 use std::collections::BTreeSet;
 
 /// The largest sheet.
-const FULL: usize = 60_000;
+pub const FULL: usize = 60_000;
 
 /// The bytes that random states take, at most: less than any wanted size that they are padded to.
 const UNPADDED: usize = 58_000;
@@ -48,7 +48,7 @@ enum Costs {
 
 type Draw = fn(&mut Rng) -> Draft;
 
-pub const SHAPES: [(&str, Draw); 12] = [
+pub const SHAPES: [(&str, Draw); 14] = [
     ("tiny", tiny),
     ("small", small),
     ("medium", medium),
@@ -61,10 +61,12 @@ pub const SHAPES: [(&str, Draw); 12] = [
     ("full size", full_size),
     ("findings of equal value", equal_values),
     ("many stages", many_stages),
+    ("chain of repeats", repeated_chain),
+    ("repeats at the ceiling", repeats_at_ceiling),
 ];
 
 /// How often each shape is drawn: small ones are quick and have the most to show.
-const WEIGHTS: [usize; 12] = [40, 40, 12, 10, 8, 5, 3, 8, 4, 6, 10, 6];
+const WEIGHTS: [usize; 14] = [40, 40, 12, 10, 8, 5, 3, 8, 4, 6, 10, 6, 6, 6];
 
 /// The number of a shape.
 pub fn draw(rng: &mut Rng) -> usize {
@@ -171,6 +173,36 @@ fn sums_at_ceiling(rng: &mut Rng) -> Draft {
             actions.push(other);
         }
     }
+    Draft::new(1, 0, nodes)
+}
+
+/// A whole chain whose checks list the next stage several times: costs grow by that factor from stage to stage, soon to the ceiling.
+fn repeated_chain(rng: &mut Rng) -> Draft {
+    let (junctions, times) = (rng.between(1, 40), rng.pick(&[2, 2, 2, 3, 5, 16]));
+    let costs = rng.pick(&[Costs::Ties, Costs::Small, Costs::Wide, Costs::Top]);
+    let mut draft = chain_of(rng, junctions, costs);
+    draft.kind = 1;
+    for state in &mut draft.states {
+        let Node::Decision(actions) = &mut state.node else { continue };
+        for action in actions.iter_mut().filter(|action| action.successors.len() == 1) {
+            action.successors = vec![action.successors[0]; times];
+        }
+    }
+    draft
+}
+
+/// Such a chain whose least cost is the ceiling to the cent, or a few cents below or above it.
+fn repeats_at_ceiling(rng: &mut Rng) -> Draft {
+    let mut left = CEILING - 3 + rng.pick(&[1, 2, 2, 2, 3, 3, 3, 4, 5]);
+    let mut nodes = Vec::new();
+    while left > 1_000_000 {
+        let times = rng.between(2, 16) as u64;
+        let cost = 1 + (left - 1) % times;
+        let next = nodes.len() as u16 + 1;
+        nodes.push(Node::Decision(vec![Action { cost: cost as u32, successors: vec![next; times as usize] }]));
+        left = (left - cost) / times;
+    }
+    nodes.push(Node::Terminal(left as u32));
     Draft::new(1, 0, nodes)
 }
 

@@ -7,6 +7,8 @@ mod ldfs;
 mod listing;
 mod questions;
 mod reader;
+#[cfg(test)]
+mod repeats;
 
 pub use host::call;
 pub use listing::listing;
@@ -16,7 +18,7 @@ pub const CEILING: u64 = 1_000_000_000;
 /// The most stages of a sheet (S4.3), and the fewest entries of an index table (S4.1).
 pub(crate) const MOST_STATES: usize = 4096;
 
-/// A check: its cost and its findings.
+/// A check: its cost and its findings. On a whole sheet one may be listed several times (S2.10).
 pub struct Action {
     pub cost: u64,
     pub successors: Vec<usize>,

@@ -52,14 +52,16 @@ fn numbers_in_range(state: &State) -> bool {
     }
 }
 
+/// A finding is above its junction's number; the next one is above it on a worst sheet, and not below it on a whole one (S4.6).
 fn successors_in_order(sheet: &Sheet, s: usize) -> bool {
+    let step = if sheet.kind == 0 { 1 } else { 0 };
     for action in &sheet.states[s].actions {
-        let mut before = s;
+        let mut least = s + 1;
         for &successor in &action.successors {
-            if successor <= before || successor >= sheet.states.len() {
+            if successor < least || successor >= sheet.states.len() {
                 return false;
             }
-            before = successor;
+            least = successor + step;
         }
     }
     true

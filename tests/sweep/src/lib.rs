@@ -4,13 +4,15 @@
 //! and shares no code with the program `procedure`.
 
 mod reader;
+#[cfg(test)]
+mod repeats;
 
-pub use reader::read;
+pub use reader::{fields, read};
 
 /// "That much or more": any value or sum above the ceiling counts as the ceiling.
 pub const CEILING: u64 = 1_000_000_000;
 
-/// A check: its cost, and the states that its findings lead to.
+/// A check: its cost, and the states that its findings lead to, each as often as it is listed (S2.10).
 pub struct Action {
     pub cost: u64,
     pub successors: Vec<usize>,

@@ -10,19 +10,24 @@ type Question = fn(&Sheet, usize) -> bool;
 
 /// The sheet that the bytes say, or the number of the first of questions 2 to 8 whose answer is no.
 pub fn read(bytes: &[u8]) -> Result<Sheet, u32> {
+    let sheet = fields(bytes)?;
+    let questions: [(u32, Question); 4] = [(5, in_range), (6, in_order), (7, not_above), (8, earned)];
+    for (number, passes) in questions {
+        if !(0..sheet.nodes.len()).all(|state| passes(&sheet, state)) {
+            return Err(number);
+        }
+    }
+    Ok(sheet)
+}
+
+/// The same by questions 2 to 4 alone: the fields are in place, and their numbers may be any.
+pub fn fields(bytes: &[u8]) -> Result<Sheet, u32> {
     if bytes.len() < 20 || bytes.len() > 60_000 {
         return Err(2);
     }
     let (whole, count, start, rest) = head(bytes).ok_or(3u32)?;
     let (nodes, cells) = states(count, rest).ok_or(4u32)?;
-    let sheet = Sheet { whole, start, nodes, cells };
-    let questions: [(u32, Question); 4] = [(5, in_range), (6, in_order), (7, not_above), (8, earned)];
-    for (number, passes) in questions {
-        if !(0..count).all(|state| passes(&sheet, state)) {
-            return Err(number);
-        }
-    }
-    Ok(sheet)
+    Ok(Sheet { whole, start, nodes, cells })
 }
 
 /// The next field: its tag, its content, and what follows it.
@@ -107,11 +112,11 @@ fn in_range(sheet: &Sheet, state: usize) -> bool {
     cell_fits && node_fits
 }
 
-/// Question 6: successors ascend strictly, from above the state's own number to below the number of states.
+/// Question 6: successors ascend, from above the state's own number to below the number of states; whole sheets may repeat one.
 fn in_order(sheet: &Sheet, state: usize) -> bool {
     actions_of(sheet, state).iter().all(|action| {
         let numbers = &action.successors;
-        let ascending = numbers.windows(2).all(|pair| pair[0] < pair[1]);
+        let ascending = numbers.windows(2).all(|pair| pair[0] < pair[1] || sheet.whole && pair[0] == pair[1]);
         ascending && numbers.iter().all(|&t| state < t && t < sheet.nodes.len())
     })
 }

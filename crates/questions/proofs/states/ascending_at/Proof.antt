@@ -9,7 +9,7 @@ use lib.ListN.{length, drop}
 use Rattle.model.specs.Read.{actionRead}
 use Rattle.model.specs.Questions.{ascending}
 use Rattle.sheet.proofs.Laws.{some-successor}
-use Rattle.questions.proofs.Stepping.{not-above, last-below, ascends}
+use Rattle.questions.proofs.Stepping.{too-low, last-below, ascends}
 use Rattle.questions.proofs.states.ascending_at.Statement.{statement}
 use Rattle.questions.proofs.states.ascending_at.Tie as tie
 
@@ -17,13 +17,14 @@ abbrev successorsAt : List ℕ → ℕ → List ℕ
 successorsAt s o = actionRead (drop o s) .successors
 
 abbrev Inv-loop : tie.InvT-loop
-Inv-loop sheet at low n end last₀ j₀ last j =
-    (j < length (successorsAt sheet at)) × (ascending low n (successorsAt sheet at) ≡ ascending last n (drop j (successorsAt sheet at)))
+Inv-loop sheet at d low n end least₀ j₀ least j =
+    (j < length (successorsAt sheet at))
+    × (ascending d low n (successorsAt sheet at) ≡ ascending d least n (drop j (successorsAt sheet at)))
 
 abbrev μ-loop : tie.MeasureT-loop
-μ-loop sheet at low n end last₀ j₀ last j = length (successorsAt sheet at) - j
+μ-loop sheet at d low n end least₀ j₀ least j = length (successorsAt sheet at) - j
 
--- the place of the successor that a turn asks, from where it is above the one before it; the loop, from that place; the call, from the loop
+-- the place of the successor that a turn asks, from where it is large enough; the loop, from that place; the call, from the loop
 abbrev successor-of : tie.Else1 Inv-loop μ-loop → tie.After-successor Inv-loop μ-loop
 successor-of c = c .before
 
@@ -38,7 +39,7 @@ next-action-requires c κs = search needs
 
 loop-holds : tie.Need-loop-holds Inv-loop μ-loop
 loop-holds c =
-    let st = c .before .before in (some-successor (st .args .sheet .now) (st .args .at) (st .pre), refl)
+    let st = c .before .before in (some-successor (st .args .sheet .now) (st .args .at) (st .pre .0), refl)
 
 successor-requires : tie.Need-successor-requires Inv-loop μ-loop
 successor-requires c κs = search needs
@@ -47,7 +48,10 @@ returns : tie.Need-returns Inv-loop μ-loop
 returns c =
     let t = c .before .successor in
     let L = loop-of (c .before) .loop in
-    not-above _ (L .j) (t .result) (L .inv .0) (t .ensures .0) (L .last) _ (omega arith) ∙ sym (L .inv .1)
+    too-low _ (L .j) (t .result) (L .inv .0) (t .ensures .0) _ (L .least) _ (omega arith) ∙ sym (L .inv .1)
+
+add-least : tie.Need-add-least Inv-loop μ-loop
+add-least c = search needs
 
 add-j : tie.Need-add-j Inv-loop μ-loop
 add-j c = search needs
@@ -68,7 +72,7 @@ returns-2 c =
     let L = at-loop .loop in
     let a = start-of at-loop .args in
     let end : L .j + 1 ≡ length (successorsAt (a .sheet .now) (a .at)) = omega (arith, at-loop .before .next-action .ensures .0) in
-    last-below _ (L .j) (t .result) (L .inv .0) (t .ensures .0) (L .last) _ (omega arith) end ∙ sym (L .inv .1)
+    last-below _ (L .j) (t .result) (L .inv .0) (t .ensures .0) _ (L .least) _ (omega arith) end ∙ sym (L .inv .1)
 
 loop-less : tie.Need-loop-less Inv-loop μ-loop
 loop-less c = search needs
@@ -80,7 +84,7 @@ loop-again c =
     let L = at-loop .loop in
     let a = start-of at-loop .args in
     let more : L .j + 1 < length (successorsAt (a .sheet .now) (a .at)) = omega (arith, at-loop .before .next-action .ensures .0) in
-    (more, L .inv .1 ∙ ascends _ (L .j) (t .result) (L .inv .0) (t .ensures .0) (L .last) _ (omega arith) more)
+    (more, L .inv .1 ∙ ascends _ (L .j) (t .result) (L .inv .0) (t .ensures .0) _ (L .least) _ (omega arith) more)
 
 pub ascending-at-spec : {M : Type 1} → statement M
 ascending-at-spec =
@@ -92,6 +96,7 @@ ascending-at-spec =
     loop-holds
     successor-requires
     returns
+    add-least
     add-j
     add-if2
     mul-if2
