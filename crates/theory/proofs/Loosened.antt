@@ -4,18 +4,19 @@ use mathlib.Core.Path.{_≡_, refl}
 use mathlib.Core.Bool.{true}
 use mathlib.Core.List.{List, [], _∷_}
 use native.Mathlib.Omega.{arith}
-use borrow.Author.Tests.{le-leb, leb-true, eqb-true}
+use borrow.Author.Tests.{le-leb, leb-true, eqb-true, eq-eqb}
 use lib.ListN.{length}
 use Rattle.model.proofs.TestLaws.{also-true, true-also, all-true, true-all, every-true, true-every}
 use Rattle.model.specs.Problem.{Kind, worst, whole, Node, terminal, decision, Problem}
 use Rattle.model.specs.Read.{problemOf}
 use Rattle.model.specs.Limits.{maxStates}
 use Rattle.model.specs.Questions.{apart, ascending, successorsInOrder, inOrder, question6, sheetQuestionsUnder, firstNo, refusalUnder}
+use Rattle.model.specs.Questions.{acceptedUnder}
 use Rattle.model.specs.Earlier.{instead, strictOrder, strictRefusal, strictlyAccepted}
 use Rattle.model.specs.Report.{answerUnder, bytesUnder, tableUnder}
 use Rattle.model.specs.Demands.{Raised, Loosened}
-use Rattle.model.proofs.QuestionLaws.{AllYes, none-no}
-use Rattle.theory.proofs.LimitLaws.{yes-accepted}
+use Rattle.model.proofs.QuestionLaws.{AllYes, none-no, all-yes}
+use Rattle.theory.proofs.LimitLaws.{accepted-yes, yes-accepted}
 use Rattle.theory.proofs.Limits.{accepted-before}
 
 -- what is in order by larger steps is so by smaller ones
@@ -52,7 +53,7 @@ module _ (limit : ℕ) (s : List ℕ) (acc : strictlyAccepted limit s ≡ true) 
   unfolding strictlyAccepted instead
   strict-yes = none-no (instead (strictOrder s) (sheetQuestionsUnder limit s)) refl (eqb-true _ _ acc)
 
-  strict-six : inOrder 1 (problemOf s) ≡ true
+  pub strict-six : inOrder 1 (problemOf s) ≡ true
   unfolding instead
   strict-six = strict-yes .1 .1 .1 .1 .0
 
@@ -75,6 +76,14 @@ module _ (limit : ℕ) (s : List ℕ) (acc : strictlyAccepted limit s ≡ true) 
     same-bytes = λ entries budget. rw (same entries budget);
     same-table = λ t budget. rw (same (length t) budget);
   }
+
+-- what is accepted was accepted then, where its findings ascend strictly
+pub strict-accepted : (limit : ℕ) (s : List ℕ) → acceptedUnder limit s ≡ true → inOrder 1 (problemOf s) ≡ true →
+    strictlyAccepted limit s ≡ true
+unfolding strictlyAccepted instead
+strict-accepted limit s acc six =
+    let (two, (three, (four, (five, (_, more))))) = accepted-yes limit s acc in
+    eq-eqb _ _ (all-yes (instead (strictOrder s) (sheetQuestionsUnder limit s)) (two, (three, (four, (five, (six, more))))))
 
 -- sheets of the first version, which had both the smaller limit and the stricter order
 pub first-version : (s : List ℕ) → strictlyAccepted 1024 s ≡ true → Loosened 1024 s × Raised 1024 maxStates s

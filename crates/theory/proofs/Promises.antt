@@ -9,9 +9,10 @@ use lib.ListN.{length, replicate}
 use Rattle.model.specs.Problem.{whole, Action, decision, Problem, Cell, states, nodeAt, actionAt, cellOf, valueOf, solved}
 use Rattle.model.specs.Format.{Bytes}
 use Rattle.model.specs.Read.{problemOf, cellsOf}
-use Rattle.model.specs.Limits.{ceiling, manyRaises}
+use Rattle.model.specs.Limits.{maxStates, ceiling, manyRaises}
 use Rattle.model.specs.QValue.{cut, qFull, q, dearest, Dearest}
 use Rattle.model.specs.Questions.{refusal}
+use Rattle.model.specs.Earlier.{strictlyAccepted}
 use Rattle.model.specs.Optimal.{bellman, bellmanCut, optimal, sumBelow, gap, gaps}
 use Rattle.model.specs.Policy.{Policy, Closed, policyCost, written}
 use Rattle.model.specs.Report.{answerTo, bytesAfter}
@@ -24,6 +25,7 @@ use Rattle.theory.proofs.Bellman.{optimal-solves, optimal-only, optimal
 use Rattle.theory.proofs.PolicyLaws.{optimal-least, greedy, greedy-closed, greedy-attains}
 use Rattle.theory.proofs.Admissible.{monotone, below-optimal, solved-cost}
 use Rattle.theory.proofs.Repeats.{only-counts, only-priced, policy-pays, solved-pays}
+use Rattle.theory.proofs.Loosened.{strict-six, strict-accepted}
 use Rattle.theory.proofs.Accepted.{asked-problem, asked-cells}
 use Rattle.theory.proofs.Sheets.{Stands, accepted-stands, stands-problem, stands-accepted, unrefused}
 use Rattle.theory.proofs.Called.{answer-refused, Kept, Called, call-does}
@@ -132,6 +134,13 @@ module _ (s : List ℕ) (acc : Accepted s) where
       record { bytes = called .stands .bytes; yes = stands-accepted _ (problemOf s) (called .next) (called .stands) },
       stands-problem _ (problemOf s) (called .next) (called .stands),
     )
+
+    -- 9: S8.13, and where s was accepted when every sheet's findings had to ascend strictly, they would have been, too: so what one call
+    -- keeps every list of calls keeps
+    pub still-strict : strictlyAccepted maxStates s ≡ true → strictlyAccepted maxStates (bytesAfter s entries budget) ≡ true
+    still-strict strict =
+        let (left, same) = still-a-sheet in
+        strict-accepted maxStates (bytesAfter s entries budget) (left .yes) (rw same (strict-six maxStates s strict))
 
 -- S7.3, of any bytes: a call makes few raises
 pub raises-small : (s : List ℕ) → Bytes s → (entries budget : ℕ) → answerTo s entries budget .raises < manyRaises
