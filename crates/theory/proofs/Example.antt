@@ -1,4 +1,5 @@
--- Not vacuous: sheet A, by its literal bytes, is accepted, and a list of calls on it, two of them refused, ends settled at 500.
+-- Not vacuous: sheet A, by its literal bytes, is accepted, and a list of calls on it, two of them refused, ends settled at 500; sheets C
+-- and D show what a looser order of findings keeps and what a repeat costs.
 use Prim.Native.Nat.{ℕ, _+_, _*_, _<_, _≤_}
 use mathlib.Core.Path.{_≡_, refl}
 use mathlib.Core.Bool.{true}

@@ -1,4 +1,4 @@
--- A line of code put before the test, or between it and a call, lengthens `start-of`.
+-- A line of code put before the test lengthens `start-of` by a `.before`, and one between it and a call the way back to the test.
 use native.Mathlib.Omega.{arith}
 use borrow.Author.Needs.{needs}
 use Rattle.sheet.proofs.Laws.{head-room}
