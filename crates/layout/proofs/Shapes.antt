@@ -1,14 +1,12 @@
 -- The shape of one state and of one action, and where a successor of an ordered action lies.
 use Prim.Native.Nat.{ℕ, zero, suc, _+_, _<_, _≤_}
-use mathlib.Core.Path.{_≡_}
+use mathlib.Core.Path.{_≡_, refl}
 use mathlib.Core.Bool.{true}
 use mathlib.Core.List.{List, [], _∷_}
 use native.Mathlib.Omega.{arith}
-use borrow.Author.Tests.{leb-true, ltb-true}
-use lib.Dec.{leb, ltb}
+use borrow.Author.Tests.{leb-true, ltb-true, le-leb, lt-ltb}
 use lib.ListN.{length, getD}
-use Rattle.model.proofs.TestLaws.{also-true, all-true}
-use Rattle.model.specs.Tests.{all}
+use Rattle.model.proofs.TestLaws.{also-true, all-true, true-also, true-all}
 use Rattle.model.specs.Problem.{Action, Node, terminal, actionAt, _∈_, here, there}
 use Rattle.model.specs.Questions.{ascending}
 use Rattle.layout.specs.Shape.{FewSuccessors, ActionsShaped, NodeShaped, NodesShaped}
@@ -30,15 +28,31 @@ member [] j lt = absurd (omega arith)
 member (t ∷ ts) zero lt = here
 member (t ∷ ts) (suc j) lt = there (member ts j (omega arith))
 
+-- An ascending list, in numbers: one that is empty; the first of one and the others; one put before others.
+module _ (d low n : ℕ) where
+  pub ascending-none : ascending d low n [] ≡ true
+  unfolding ascending
+  ascending-none = refl
+
+  module _ (t : ℕ) (ts : List ℕ) where
+    pub ascending-first : ascending d low n (t ∷ ts) ≡ true → (low ≤ t) × (t < n) × (ascending d (t + d) n ts ≡ true)
+    unfolding ascending
+    ascending-first h =
+        let (first, more) = also-true _ _ h in
+        let (above, below) = all-true _ first in
+        (leb-true low t above, ltb-true t n (below .0), more)
+
+    pub ascending-put : low ≤ t → t < n → ascending d (t + d) n ts ≡ true → ascending d low n (t ∷ ts) ≡ true
+    unfolding ascending
+    ascending-put above below more = true-also _ _ (true-all _ (le-leb low t above, (lt-ltb t n below, tt))) more
+
 -- each of an ascending list lies between its bounds
 pub ascending-in : (d low n : ℕ) (ts : List ℕ) → ascending d low n ts ≡ true → (t : ℕ) → t ∈ ts → (low ≤ t) × (t < n)
-unfolding ascending
 ascending-in d low n [] h t m = absurd (elim m [ ])
-ascending-in d low n (u ∷ ts) h t m = go t m (ascending-in d (u + d) n ts (g .1))
+ascending-in d low n (u ∷ ts) h t m =
+    let (above, below, more) = ascending-first d low n u ts h in go above below t m (ascending-in d (u + d) n ts more)
   where
-    g : (all (leb low u ∷ ltb u n ∷ []) ≡ true) × (ascending d (u + d) n ts ≡ true)
-    g = also-true _ _ h
-
-    go : (t : ℕ) → t ∈ (u ∷ ts) → ((t : ℕ) → t ∈ ts → (u + d ≤ t) × (t < n)) → (low ≤ t) × (t < n)
-    go t here ih = let e = all-true _ (g .0) in (leb-true _ _ (e .0), ltb-true _ _ (e .1 .0))
-    go t (there m) ih = let e = all-true _ (g .0) in (omega (arith, leb-true low u (e .0), ih t m), ih t m .1)
+    go : low ≤ u → u < n → (t : ℕ) → t ∈ (u ∷ ts) → ((t : ℕ) → t ∈ ts → (u + d ≤ t) × (t < n)) →
+        (low ≤ t) × (t < n)
+    go above below t here ih = (above, below)
+    go above below t (there m) ih = (omega (arith, ih t m), ih t m .1)

@@ -6,10 +6,10 @@ use mathlib.Core.Logic.{_⊎_, inl, inr, ⊎-elim}
 use mathlib.Core.List.{List, [], _∷_, _++_, append-nil, append-assoc}
 use native.Mathlib.Omega.{arith}
 use native.Mathlib.Nat.{eq-or-lt-of-le}
-use borrow.Author.Tests.{le-leb, lt-ltb, ltb-true}
-use Rattle.model.proofs.TestLaws.{never, also-true, true-also, all-true, true-all}
+use Rattle.model.proofs.TestLaws.{never}
 use Rattle.model.specs.Problem.{Problem, Cell, _∈_, here, there}
 use Rattle.model.specs.Questions.{ascending}
+use Rattle.layout.proofs.Shapes.{ascending-none, ascending-first, ascending-put}
 use Rattle.listing.specs.Listing.{stateLine, reached, stateLines, linesOf, EachOnce}
 
 equal-or-less : (t n : ℕ) → t < suc n → (t ≡ n) ⊎ (t < n)
@@ -19,14 +19,10 @@ equal-or-less t n l = eq-or-lt-of-le (omega arith)
 ascending-behind : (more : List ℕ) (n low : ℕ) (ts : List ℕ) →
     ((from : ℕ) → from ≤ n → ascending 1 from (suc n) more ≡ true) →
     low ≤ n → ascending 1 low n ts ≡ true → ascending 1 low (suc n) (ts ++ more) ≡ true
-unfolding ascending
 ascending-behind more n low [] goes le h = goes low le
 ascending-behind more n low (t ∷ ts) goes le h =
-    let (first, later) = also-true _ _ h in
-    let (above, below) = all-true _ first in
-    let less = ltb-true t n (below .0) in
-    true-also _ _ (true-all _ (above, (lt-ltb t (suc n) (omega arith), tt)))
-    (ascending-behind more n (t + 1) ts goes (omega arith) later)
+    let (above, below, later) = ascending-first 1 low n t ts h in
+    ascending-put 1 low (suc n) t (ts ++ more) above (omega arith) (ascending-behind more n (t + 1) ts goes (omega arith) later)
 
 -- the members of a list with one more behind it
 in-front : {t : ℕ} {ts : List ℕ} (us : List ℕ) → t ∈ ts → t ∈ (ts ++ us)
@@ -53,23 +49,23 @@ module _ (p : Problem) (cells : List Cell) where
   -- one stage more, with a line or without one
   module _ (n : ℕ) (h : EachOnce p cells n) where
     with-line : reached p cells n ≡ true → EachOnce p cells (suc n)
-    unfolding stateLines ascending
+    unfolding stateLines
     with-line e = record {
       on = h .on ++ n ∷ [];
       lines = rw (e, h .lines) (sym (lines-last (h .on) n));
       rising = ascending-behind (n ∷ []) n 0 (h .on)
-          (λ from le. true-also _ _ (true-all _ (le-leb from n le, (lt-ltb n (suc n) (omega arith), tt))) refl) (omega arith) (h .rising);
+          (λ from le. ascending-put 1 from (suc n) n [] le (omega arith) (ascending-none 1 (n + 1) (suc n))) (omega arith) (h .rising);
       only-reached = λ t m. ⊎-elim (λ k. h .only-reached t k) (λ is. rw is e) (either (h .on) n t m);
       each-reached = λ t l r.
           ⊎-elim (λ is. rw is (at-end (h .on) n)) (λ less. in-front (n ∷ []) (h .each-reached t less r)) (equal-or-less t n l);
     }
 
     without-line : reached p cells n ≡ false → EachOnce p cells (suc n)
-    unfolding stateLines ascending
+    unfolding stateLines
     without-line e = record {
       on = h .on;
       lines = rw e (append-nil (stateLines p cells n) ∙ h .lines);
-      rising = rw append-nil at (ascending-behind [] n 0 (h .on) (λ from le. refl) (omega arith) (h .rising));
+      rising = rw append-nil at (ascending-behind [] n 0 (h .on) (λ from le. ascending-none 1 from (suc n)) (omega arith) (h .rising));
       only-reached = h .only-reached;
       each-reached = λ t l r. ⊎-elim (λ is. never (sym e ∙ (rw is at r))) (λ less. h .each-reached t less r) (equal-or-less t n l);
     }
@@ -79,11 +75,11 @@ module _ (p : Problem) (cells : List Cell) where
     one-more false = without-line
 
   pub each-once : (n : ℕ) → EachOnce p cells n
-  unfolding stateLines linesOf ascending
+  unfolding stateLines linesOf
   each-once zero = record {
     on = [];
     lines = refl;
-    rising = refl;
+    rising = ascending-none 1 0 0;
     only-reached = λ t m. absurd (elim m [ ]);
     each-reached = λ t l r. absurd (omega arith);
   }

@@ -44,7 +44,7 @@ pub fn words(fd: i32, n: u32) -> bool {
         ),
         6 => io::write_all(
             fd,
-            b" (S4.6): a check's findings are not ascending (on a worst sheet strictly), above its junction and below the stages' number\n",
+            b" (S4.6): findings are not ascending (strictly on a worst sheet), above their junction and below the number of stages\n",
         ),
         7 => io::write_all(
             fd,

@@ -90,12 +90,12 @@ fn in_range(sheet: &[u8], table: &[u32], state: usize) -> bool
     }
 }
 
-// Of the successors of the action at `at`, is the first `low` or more, each of the others `d` or more above the one before it, and is each
-// below `n`? Where they ascend, the last of them alone is held to `n`.
-fn ascending_at(sheet: &[u8], at: usize, d: usize, low: usize, n: usize) -> bool
+// Of the successors of the action at `at`, is the first `low` or more, each of the others `step` or more above the one before it, and is
+// each below `n`? Where they ascend, the last of them alone is held to `n`.
+fn ascending_at(sheet: &[u8], at: usize, step: usize, low: usize, n: usize) -> bool
     requires { ⌜ actionFits (drop at (now sheet)) ≡ true ⌝ }
-    requires { ⌜ d ≤ 1 ⌝ }
-    ensures { λ r. ⌜ r ≡ ascending d low n (actionRead (drop at (now (sheet .entry))) .successors) ⌝ }
+    requires { ⌜ step ≤ 1 ⌝ }
+    ensures { λ r. ⌜ r ≡ ascending step low n (actionRead (drop at (now (sheet .entry))) .successors) ⌝ }
 {
     let end = next_action(sheet, at);
     let mut least = low;
@@ -105,7 +105,7 @@ fn ascending_at(sheet: &[u8], at: usize, d: usize, low: usize, n: usize) -> bool
         if t < least {
             return false;
         }
-        least = t + d;
+        least = t + step;
         j += 1;
         if end <= at + format::SUCCESSORS_IN + format::SUCCESSOR_BYTES * j {
             return t < n;
@@ -113,18 +113,18 @@ fn ascending_at(sheet: &[u8], at: usize, d: usize, low: usize, n: usize) -> bool
     }
 }
 
-// Are the successors of each action of a state above the state, each `d` or more above the one before it, and below `n`?
-fn in_steps(sheet: &[u8], table: &[u32], state: usize, d: usize, n: usize) -> bool
+// Are the successors of each action of a state above the state, each `step` or more above the one before it, and below `n`?
+fn in_steps(sheet: &[u8], table: &[u32], state: usize, step: usize, n: usize) -> bool
     requires { ⌜ Within (now sheet) (now table) state ⌝ }
-    requires { ⌜ d ≤ 1 ⌝ }
-    ensures { λ r. ⌜ r ≡ successorsInOrder d n state (nodeAt (problemOf (now (sheet .entry))) state) ⌝ }
+    requires { ⌜ step ≤ 1 ⌝ }
+    ensures { λ r. ⌜ r ≡ successorsInOrder step n state (nodeAt (problemOf (now (sheet .entry))) state) ⌝ }
 {
     if is_terminal(sheet, table, state) {
         return true;
     }
     let mut at: usize = first_action(sheet, table, state);
     loop {
-        if ascending_at(sheet, at, d, state + 1, n) {
+        if ascending_at(sheet, at, step, state + 1, n) {
             at = next_action(sheet, at);
         } else {
             return false;

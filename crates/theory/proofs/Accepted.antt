@@ -15,7 +15,7 @@ use Rattle.model.specs.Problem.{cellOf, solved, _∈_, here, there}
 use Rattle.model.specs.Limits.{ceiling, maxCost}
 use Rattle.model.specs.Questions.{costsInRange, chosenInRange, cellInRange, question5, apart, ascending, successorsInOrder, question6}
 use Rattle.model.specs.Questions.{valueUnder, question7, allSolved, passedBy, markEarned, question8}
-use Rattle.layout.proofs.Shapes.{node-shaped, action-shaped, ascending-in}
+use Rattle.layout.proofs.Shapes.{node-shaped, action-shaped, ascending-first, ascending-in}
 use Rattle.layout.specs.Shape.{NodeShaped, ChosenShaped}
 use Rattle.theory.specs.Consistent.{Ascends, WellFormed, Sound, Consistent}
 use Rattle.theory.specs.Asked.{Asked}
@@ -39,10 +39,10 @@ solved-all cells [] h = refl
 solved-all cells (t ∷ ts) h = true-also _ _ (h t here) (solved-all cells ts (λ u m. h u (there m)))
 
 ascends : (d low n : ℕ) (ts : List ℕ) → ascending d low n ts ≡ true → Ascends ts
-unfolding ascending
 ascends d low n [] h = tt
 ascends d low n (t ∷ ts) h =
-    let more = also-true _ _ h .1 in (λ u m. omega (arith, ascending-in d (t + d) n ts more u m), ascends d (t + d) n ts more)
+    let (_, _, more) = ascending-first d low n t ts h in
+    (λ u m. omega (arith, ascending-in d (t + d) n ts more u m), ascends d (t + d) n ts more)
 
 chosen-zero : (n : Node) (c : Cell) → ChosenShaped n c → (cost : ℕ) → n ≡ terminal cost → c .chosen ≡ 0
 chosen-zero n c h cost e = subst (λ (m : Node). ChosenShaped m c) e h

@@ -1,6 +1,6 @@
 -- What holds of every accepted sheet, and of a call on it: what docs/PROMISES.md lists beside the demands.
 use Prim.Native.Nat.{ℕ, zero, suc, _+_, _*_, _<_, _≤_}
-use mathlib.Core.Path.{_≡_, refl}
+use mathlib.Core.Path.{_≡_, refl, _∙_}
 use mathlib.Core.Bool.{true}
 use mathlib.Core.Option.{some}
 use mathlib.Core.List.{List}
@@ -25,7 +25,7 @@ use Rattle.theory.proofs.Bellman.{optimal-solves, optimal-only, optimal
 use Rattle.theory.proofs.PolicyLaws.{optimal-least, greedy, greedy-closed, greedy-attains}
 use Rattle.theory.proofs.Admissible.{monotone, below-optimal, solved-cost}
 use Rattle.theory.proofs.Repeats.{only-counts, only-priced, policy-pays, solved-pays}
-use Rattle.theory.proofs.Loosened.{strict-six, strict-accepted}
+use Rattle.theory.proofs.Loosened.{same-accepted, strict-six}
 use Rattle.theory.proofs.Accepted.{asked-problem, asked-cells}
 use Rattle.theory.proofs.Sheets.{Stands, accepted-stands, stands-problem, stands-accepted, unrefused}
 use Rattle.theory.proofs.Called.{answer-refused, Kept, Called, call-does}
@@ -140,7 +140,7 @@ module _ (s : List ℕ) (acc : Accepted s) where
     pub still-strict : strictlyAccepted maxStates s ≡ true → strictlyAccepted maxStates (bytesAfter s entries budget) ≡ true
     still-strict strict =
         let (left, same) = still-a-sheet in
-        strict-accepted maxStates (bytesAfter s entries budget) (left .yes) (rw same (strict-six maxStates s strict))
+        same-accepted maxStates (bytesAfter s entries budget) (rw same (strict-six maxStates s strict)) ∙ left .yes
 
 -- S7.3, of any bytes: a call makes few raises
 pub raises-small : (s : List ℕ) → Bytes s → (entries budget : ℕ) → answerTo s entries budget .raises < manyRaises

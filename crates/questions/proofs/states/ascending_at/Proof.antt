@@ -17,12 +17,12 @@ abbrev successorsAt : List ℕ → ℕ → List ℕ
 successorsAt s o = actionRead (drop o s) .successors
 
 abbrev Inv-loop : tie.InvT-loop
-Inv-loop sheet at d low n end least₀ j₀ least j =
+Inv-loop sheet at step low n end least₀ j₀ least j =
     (j < length (successorsAt sheet at))
-    × (ascending d low n (successorsAt sheet at) ≡ ascending d least n (drop j (successorsAt sheet at)))
+    × (ascending step low n (successorsAt sheet at) ≡ ascending step least n (drop j (successorsAt sheet at)))
 
 abbrev μ-loop : tie.MeasureT-loop
-μ-loop sheet at d low n end least₀ j₀ least j = length (successorsAt sheet at) - j
+μ-loop sheet at step low n end least₀ j₀ least j = length (successorsAt sheet at) - j
 
 -- the place of the successor that a turn asks, from where it is large enough; the loop, from that place; the call, from the loop
 abbrev successor-of : tie.Else1 Inv-loop μ-loop → tie.After-successor Inv-loop μ-loop

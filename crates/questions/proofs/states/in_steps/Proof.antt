@@ -17,12 +17,12 @@ use Rattle.questions.proofs.states.in_steps.Statement.{statement}
 use Rattle.questions.proofs.states.in_steps.Tie as tie
 
 abbrev Inv-loop : tie.InvT-loop
-Inv-loop sheet table state d n at₀ at =
+Inv-loop sheet table state step n at₀ at =
     (k : ℕ) × Along sheet state k at × (k < length (actionsAt (problemOf sheet) state))
-    × (every k (orderOf (problemOf sheet) d n state) ≡ true)
+    × (every k (orderOf (problemOf sheet) step n state) ≡ true)
 
 abbrev μ-loop : tie.MeasureT-loop
-μ-loop sheet table state d n at₀ at = length sheet - at
+μ-loop sheet table state step n at₀ at = length sheet - at
 
 -- the call, from where the state is no terminal; that place, from the loop; the loop, from the place of the next action
 abbrev start-of : tie.Else1 Inv-loop μ-loop → tie.Start Inv-loop μ-loop
@@ -41,7 +41,7 @@ decided c = decision-from (start-of c .pre .0) _ (c .before .is-terminal .ensure
 -- the test of action k
 tested : (c : tie.After-ascending-at Inv-loop μ-loop) (b : Bool) → c .ascending-at .result ≡ b →
     let a = start-of (else-of (c .before)) .args in
-    orderOf (problemOf (a .sheet .now)) (a .d) (a .n) (a .state) (c .before .loop .inv .0) ≡ b
+    orderOf (problemOf (a .sheet .now)) (a .step) (a .n) (a .state) (c .before .loop .inv .0) ≡ b
 tested c b e =
     let (k, along, lk, _) = c .before .loop .inv in
     rw (along-is (decided (else-of (c .before))) along lk) at (sym (c .ascending-at .ensures) ∙ e)
@@ -49,7 +49,7 @@ tested c b e =
 -- the next action stands where the code goes on, and those before it are in order
 turned : (c : tie.After-next-action Inv-loop μ-loop) → let L = loop-of c in let a = start-of (else-of L) .args in
     Along (a .sheet .now) (a .state) (L .loop .inv .0 + 1) (c .next-action .result) ×
-    (every (L .loop .inv .0 + 1) (orderOf (problemOf (a .sheet .now)) (a .d) (a .n) (a .state)) ≡ true)
+    (every (L .loop .inv .0 + 1) (orderOf (problemOf (a .sheet .now)) (a .step) (a .n) (a .state)) ≡ true)
 turned c =
     let L = loop-of c in
     let (k, along, lk, passed) = L .loop .inv in (
