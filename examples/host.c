@@ -5,8 +5,8 @@
  *
  * Each call may make RAISES raises (10,000 unless said), and the sheet is saved after each: to SHEET itself, or to FILE, and then SHEET
  * stays as it is. A worked sheet is again a sheet, so to carry the work on, run the host again on the file that it saved. After CALLS
- * calls it ends, settled or not. Exit status: 0 where the start is settled, 2 where it is still open, 1 where the sheet is refused or a
- * file fails.
+ * calls it ends, settled or not. Exit status: 0 where the start is settled, also where it has no complete plan, 2 where it is still open, 1
+ * where the sheet is refused or a file fails.
  *
  * C99 with two functions of POSIX (fileno, fsync), and C++11. Built against an installed library (install.sh PREFIX):
  *
@@ -34,7 +34,7 @@ static uint8_t result[LDFS_RESULT_LEAST];
 static const char *const refusals[] = {
     "",
     "the table or the result is too short",
-    "the sheet has fewer than 20 bytes or more than 60,000",
+    "the sheet has fewer than 17 bytes or more than 60,000",
     "the head is damaged, or names a kind, a number of stages or a start that cannot be",
     "a field is out of place, missing or left over",
     "a cost, a value, a mark or a chosen check is out of its range",
@@ -163,6 +163,9 @@ static uint32_t work(size_t length, uint64_t budget)
     uint64_t passes = little(result + LDFS_RESULT_PASSES, 8), raises = little(result + LDFS_RESULT_RAISES, 8);
     if (number < LDFS_SETTLED)
         printf("refused %" PRIu32 ": %s\n", number, refusals[number]);
+    else if (price == LDFS_NO_PLAN) /* a stopped call may know it too */
+        printf("%s: there is no complete plan (passes %" PRIu64 ", raises %" PRIu64 ")\n", number == LDFS_NONE ? "none" : "stopped", passes,
+               raises);
     else
         printf("%s %" PRIu64 " cents (passes %" PRIu64 ", raises %" PRIu64 ")\n",
                number == LDFS_SETTLED ? "settled: the least cost is"

@@ -25,16 +25,16 @@
  * or a stored sheet of before would no longer do, MINOR where something is added, PATCH where neither. A sheet's bytes hold no version.
  */
 #define LDFS_VERSION_MAJOR 2
-#define LDFS_VERSION_MINOR 1
+#define LDFS_VERSION_MINOR 2
 #define LDFS_VERSION_PATCH 0
-#define LDFS_VERSION "2.1.0"
+#define LDFS_VERSION "2.2.0"
 
 #ifdef __cplusplus
 extern "C" {
 #endif
 
 /* Lengths in bytes, and limits. */
-#define LDFS_SHEET_LEAST 20      /* a sheet has at least this many bytes, */
+#define LDFS_SHEET_LEAST 17      /* a sheet has at least this many bytes, */
 #define LDFS_SHEET_MOST 60000    /* and at most this many */
 #define LDFS_STAGES_MOST 4096    /* stages of a sheet, at most */
 #define LDFS_ENTRY_BYTES 4       /* an entry of the index table: 32 bits, least significant byte first */
@@ -42,6 +42,7 @@ extern "C" {
 #define LDFS_RESULT_LEAST 24     /* the result: three numbers of 64 bits, or more room */
 #define LDFS_STACK_BYTES 671744  /* stack that a call needs, at most: measured and rounded up (docs/HOST.md), not proved */
 #define LDFS_CEILING 1000000000  /* in cents: a value at the ceiling means "that much or more" [S2.7] */
+#define LDFS_NO_PLAN 1000000001  /* the value that is written for none: there is no complete plan [S2.11] */
 
 /* Where the numbers stand in the result: eight bytes each, least significant first [S9.5]. */
 #define LDFS_RESULT_PRICE 0   /* the start's value, in cents: what it means depends on the outcome, below; 0 when refused */
@@ -65,8 +66,8 @@ extern "C" {
 #define LDFS_JUNCTION_TAG 3
 #define LDFS_JUNCTION_VALUE 3 /* 4 bytes */
 #define LDFS_JUNCTION_MARK 7  /* 1 byte: 0 open, 1 settled */
-#define LDFS_JUNCTION_CHOSEN 8 /* 1 byte: the number of the chosen check */
-#define LDFS_JUNCTION_CHECKS 9 /* the field of its check 0; the others follow */
+#define LDFS_JUNCTION_CHOSEN 8 /* 1 byte: the number of the chosen check; 0 while open, and where the junction has no checks */
+#define LDFS_JUNCTION_CHECKS 9 /* the field of its check 0, if it has any: 0 to 16 follow one another */
 #define LDFS_CHECK_TAG 4
 #define LDFS_CHECK_COST 3     /* 4 bytes */
 #define LDFS_CHECK_FINDINGS 7 /* 2 bytes each: (length - 4) / 2 of them */
@@ -77,21 +78,25 @@ extern "C" {
  * sheet is as it was. 1 and 9 are about what the host lent; 2 to 8 are faults of the sheet ..
  */
 #define LDFS_REFUSED_ROOM 1     /* [S4.1] the table has fewer than 16,384 bytes, or the result fewer than 24 [S9.6] */
-#define LDFS_REFUSED_SIZE 2     /* [S4.2] the sheet has fewer than 20 bytes, or more than 60,000 */
+#define LDFS_REFUSED_SIZE 2     /* [S4.2] the sheet has fewer than 17 bytes, or more than 60,000 */
 #define LDFS_REFUSED_HEAD 3     /* [S4.3] it does not begin with a head: kind 0 or 1, 1 to 4,096 stages, start below their number */
 #define LDFS_REFUSED_FIELDS 4   /* [S4.4] what follows is not exactly those stages, in the format's order, counts and lengths */
-#define LDFS_REFUSED_RANGES 5   /* [S4.5] a cost, a value, a mark or a chosen check is out of its range */
+#define LDFS_REFUSED_RANGES 5   /* [S4.5] a cost, a value (LDFS_NO_PLAN at most), a mark or a chosen check is out of its range */
 #define LDFS_REFUSED_FINDINGS 6 /* [S4.6] findings do not ascend, on a worst sheet strictly (on a whole sheet equal ones may stand side by
                                    side, and each counts [S2.10]), or one is not above its junction's number, or is no stage */
 #define LDFS_REFUSED_VALUES 7   /* [S4.7] a value is above its ending's cost, or above the price of a check of its junction */
-#define LDFS_REFUSED_MARKS 8    /* [S4.8] a settled stage has another value than settles it, or its chosen check an open finding */
+#define LDFS_REFUSED_MARKS 8    /* [S4.8] a settled stage has another value than settles it (LDFS_NO_PLAN, at a junction without checks), or
+                                   its chosen check an open finding */
 #define LDFS_REFUSED_BUDGET 9   /* [S4.9] the budget is 0, and nothing else is wrong: the sheet is valid */
 
 /* .. or the outcome of the work, which says what the price in the result is [S7.1, S8]. */
 #define LDFS_SETTLED 100 /* the start is settled below the ceiling: the price is the least cost, and the sheet holds a plan that costs it */
-#define LDFS_OVER 101    /* the start is settled at the ceiling: the price is the ceiling, and every plan costs that or more */
+#define LDFS_OVER 101    /* the start is settled at the ceiling: the price is the ceiling. A complete plan exists, and every one costs
+                            that or more */
 #define LDFS_STOPPED 102 /* the budget is spent and the start is open: the price is a lower bound. No plan costs less, and from call to
                             call on the same sheet it never falls. Another call carries the sheet on */
+#define LDFS_NONE 103    /* the start is settled at LDFS_NO_PLAN, which is the price: there is no complete plan. Every choice of checks
+                            leads to a junction that has none */
 
 /*
  * Works the sheet until its start is settled or the budget of raises is spent [S9].

@@ -10,6 +10,7 @@ from pathlib import Path
 
 WORST, WHOLE = 0, 1
 OPEN, SETTLED = 0, 1
+CEILING = 1_000_000_000
 
 
 def field(tag, content):
@@ -82,6 +83,35 @@ def two_cradles(kind=WHOLE):
     ])
 
 
+def sheet_f():
+    """Sheet F of the worked examples (S11): one junction, whose checks have all been withdrawn. It is the shortest sheet, of 17 bytes."""
+    return sheet(WORST, [junction([])])
+
+
+def sheet_h():
+    """Sheet H of the worked examples (S11): both checks of junction 0 lead to junction 1, which has none."""
+    return sheet(WORST, [
+        junction([(10, [1]), (100, [1])]),
+        junction([]),
+    ])
+
+
+def sheet_i():
+    """Sheet I of the worked examples (S11): junction 0 has a check that leads to junction 13, which has none, and a check at the ceiling.
+
+    Junctions 1 to 11 have one check each (1,000,000), whose findings are all stages behind it up to ending 12 (1,000,000): least costs
+    double from stage to stage. These twelve are settled at them, cut to the ceiling; junctions 0 and 13 are open at the ceiling.
+    """
+    least = {number: min(1_000_000 * 2 ** (12 - number), CEILING) for number in range(1, 13)}
+    doubling = [junction([(1_000_000, range(number + 1, 13))], value=least[number], mark=SETTLED) for number in range(1, 12)]
+    return sheet(WHOLE, [
+        junction([(1, [13]), (1, [1, 2])], value=CEILING),
+        *doubling,
+        ending(1_000_000, value=least[12], mark=SETTLED),
+        junction([], value=CEILING),
+    ])
+
+
 def many_stages(stages):
     """A junction whose one check (100) leads to the first ending and to the last, and endings, each of which costs its own number."""
     return sheet(WORST, [junction([(100, [1, stages - 1])])] + [ending(number) for number in range(1, stages)])
@@ -137,12 +167,15 @@ SAMPLES = {
     # one stage listed twice in a check, which a whole sheet may do and a worst one may not
     "two-cradles.sheet": two_cradles(),
     "two-cradles-worst.sheet": two_cradles(WORST),
+    # junctions that have no check left: no complete plan, and a plan beside it that costs the ceiling or more
+    "no-check-left.sheet": sheet_h(),
+    "no-check-left-over.sheet": sheet_i(),
     # as many stages as a sheet may have, one more, and the deepest chain that 60,000 bytes hold
     "stages-4096.sheet": many_stages(4096),
     "stages-4097.sheet": many_stages(4097),
     "deep.sheet": chain(3332),
     # one for each refusal that a sheet alone can get
-    "refused-2.sheet": sheet(WORST, [ending(0)])[:19],
+    "refused-2.sheet": sheet_f()[:16],
     "refused-3.sheet": head(WORST, 0) + sheet_b()[8:],
     "refused-4.sheet": sheet_a(first_cost=0)[:-1],
     "refused-5.sheet": sheet_a(first_cost=0),

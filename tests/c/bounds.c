@@ -5,7 +5,7 @@
 #include <stddef.h>
 #include <stdint.h>
 
-enum { TERMINAL = 2, ACTION = 4, MOST_STATES = 4096, CEILING = 1000000000 };
+enum { TERMINAL = 2, ACTION = 4, MOST_STATES = 4096, CEILING = 1000000000, NONE = 1000000001 };
 
 uint32_t bound_touch(uint8_t *sheet, size_t sheet_length, uint8_t *table, size_t table_length, uint64_t budget, uint8_t *result,
                      size_t result_length);
@@ -38,11 +38,20 @@ static const uint8_t *past(const uint8_t *field)
     return field + 3 + get16(field + 1);
 }
 
+static int any_none(const uint8_t *action, const uint32_t *costs)
+{
+    for (const uint8_t *at = action + 7; at < past(action); at += 2)
+        if (costs[get16(at)] == NONE)
+            return 1;
+    return 0;
+}
+
+/* as it is written, by those of the stages behind it; only a check that reaches the ceiling can be none */
 static uint32_t least_cost(const uint8_t *field, const uint8_t *end, int whole, const uint32_t *costs)
 {
     if (field[0] == TERMINAL)
         return get32(field + 3);
-    uint64_t least = CEILING;
+    uint64_t least = NONE;
     for (const uint8_t *action = past(field); action < end && action[0] == ACTION; action = past(action)) {
         uint64_t joined = 0;
         for (const uint8_t *at = action + 7; at < past(action); at += 2) {
@@ -53,6 +62,8 @@ static uint32_t least_cost(const uint8_t *field, const uint8_t *end, int whole, 
                 joined = cost;
         }
         joined += get32(action + 3);
+        if (joined >= CEILING)
+            joined = any_none(action, costs) ? NONE : CEILING;
         if (joined < least)
             least = joined;
     }

@@ -70,6 +70,32 @@ static const uint8_t sheet_e[] = {
     2, 0, 9, 0, 0, 0, 7, 0, 0, 0, 0, 0,                   /* stage 2 */
 };
 
+/* Sheet F: one junction without checks, the shortest sheet. */
+static const uint8_t sheet_f[LDFS_SHEET_LEAST] = {
+    1, 0, 5, 0, 0, 1, 0, 0,                /* head: kind 0, 1 stage, start 0 */
+    3, 0, 6, 0, 0, 0, 0, 0, 0,             /* stage 0 */
+};
+
+/* Sheet G: one check (10) leads to a junction without checks, the other (100) to an ending of 30. */
+static const uint8_t sheet_g[] = {
+    1, 0, 5, 0, 0, 3, 0, 0,                /* head: kind 0, 3 stages, start 0 */
+    3, 0, 6, 0, 0, 0, 0, 0, 0,             /* stage 0 */
+    4, 0, 6, 0, 0, 0, 10, 0, 1,            /*   check 0: finding 1 */
+    4, 0, 6, 0, 0, 0, 100, 0, 2,           /*   check 1: finding 2 */
+    3, 0, 6, 0, 0, 0, 0, 0, 0,             /* stage 1, a junction without checks */
+    2, 0, 9, 0, 0, 0, 30, 0, 0, 0, 0, 0,   /* stage 2 */
+};
+
+/* Sheet H: both checks lead there. */
+static const uint8_t sheet_h[] = {
+    1, 0, 5, 0, 0, 2, 0, 0,                /* head: kind 0, 2 stages, start 0 */
+    3, 0, 6, 0, 0, 0, 0, 0, 0,             /* stage 0 */
+    4, 0, 6, 0, 0, 0, 10, 0, 1,            /*   check 0: finding 1 */
+    4, 0, 6, 0, 0, 0, 100, 0, 1,           /*   check 1: finding 1 */
+    3, 0, 6, 0, 0, 0, 0, 0, 0,             /* stage 1, a junction without checks */
+};
+enum { H_STAGE_1 = 35 };
+
 /* Where sheets have the field of stage 0, a junction, and that of its check 0. */
 enum { STAGE_0 = 8, CHECK_0 = STAGE_0 + LDFS_JUNCTION_CHECKS };
 
@@ -225,12 +251,15 @@ static void sheets_of_both_kinds(void)
 }
 
 /* One ending of cost 70: its one raise is just within a budget of 1. */
+static const uint8_t ending_70[] = {
+    1, 0, 5, 0, 0, 1, 0, 0,               /* head: kind 0, 1 stage, start 0 */
+    2, 0, 9, 0, 0, 0, 70, 0, 0, 0, 0, 0,  /* stage 0, an ending: cost 70, value 0, open */
+};
+
 static void one_ending(void)
 {
-    uint8_t sheet[] = {
-        1, 0, 5, 0, 0, 1, 0, 0,               /* head: kind 0, 1 stage, start 0 */
-        2, 0, 9, 0, 0, 0, 70, 0, 0, 0, 0, 0,  /* stage 0, an ending: cost 70, value 0, open */
-    };
+    uint8_t sheet[sizeof ending_70];
+    memcpy(sheet, ending_70, sizeof sheet);
     solve_expecting("one ending, budget 1", sheet, sizeof sheet, 1, LDFS_SETTLED, 70, 1, 1);
 }
 
@@ -433,12 +462,139 @@ static void listed_several_times(void)
     e_refused("E, findings 3 and 3", beyond, sizeof beyond);
 }
 
+/* F with its value, mark and chosen check. */
+static const uint8_t *sheet_f_at(uint32_t value, uint8_t mark, uint8_t chosen)
+{
+    static uint8_t sheet[sizeof sheet_f];
+    memcpy(sheet, sheet_f, sizeof sheet);
+    put_big(sheet + STAGE_0 + LDFS_JUNCTION_VALUE, value);
+    sheet[STAGE_0 + LDFS_JUNCTION_MARK] = mark;
+    sheet[STAGE_0 + LDFS_JUNCTION_CHOSEN] = chosen;
+    return sheet;
+}
+
+/* The ending of cost 70 at a value. */
+static const uint8_t *ending_70_at(uint32_t value)
+{
+    static uint8_t sheet[sizeof ending_70];
+    memcpy(sheet, ending_70, sizeof sheet);
+    put_big(sheet + STAGE_0 + LDFS_ENDING_VALUE, value);
+    return sheet;
+}
+
+/* A junction that a call has settled at none: 0 is chosen where it has no checks, and here else too. */
+static void expect_no_plan(const uint8_t *field)
+{
+    expect(big(field + LDFS_JUNCTION_VALUE, 4) == LDFS_NO_PLAN, "its value is that of none");
+    expect(field[LDFS_JUNCTION_MARK] == 1 && field[LDFS_JUNCTION_CHOSEN] == 0, "it is settled, with check 0 chosen");
+}
+
+/* F, the shortest sheet [S11.31 to S11.34]. */
+static void one_junction_without_checks(void)
+{
+    uint8_t sheet[sizeof sheet_f];
+    const size_t f = sizeof sheet_f;
+    memcpy(sheet, sheet_f, f);
+    solve_expecting("sheet F", sheet, f, UINT64_MAX, LDFS_NONE, LDFS_NO_PLAN, 1, 1);
+    memcpy(sheet, sheet_f, f);
+    solve_expecting("sheet F, budget 1", sheet, f, 1, LDFS_NONE, LDFS_NO_PLAN, 1, 1);
+    expect_no_plan(sheet + STAGE_0);
+    solve_expecting("that sheet carried on", sheet, f, UINT64_MAX, LDFS_NONE, LDFS_NO_PLAN, 1, 0);
+    memcpy(sheet, sheet_f_at(LDFS_NO_PLAN, 0, 0), f);
+    solve_expecting("F, open at 1,000,000,001", sheet, f, UINT64_MAX, LDFS_NONE, LDFS_NO_PLAN, 1, 0);
+
+    refused("F, open at 1,000,000,002", sheet_f_at(LDFS_NO_PLAN + 1, 0, 0), f, UINT64_MAX, LDFS_REFUSED_RANGES);
+    refused("F, settled at 1,000,000,001, budget 0", sheet_f_at(LDFS_NO_PLAN, 1, 0), f, 0, LDFS_REFUSED_BUDGET);
+    refused("F, settled at the ceiling", sheet_f_at(LDFS_CEILING, 1, 0), f, UINT64_MAX, LDFS_REFUSED_MARKS);
+    refused("F, settled at 0", sheet_f_at(0, 1, 0), f, UINT64_MAX, LDFS_REFUSED_MARKS);
+    refused("F, chosen check 1, open", sheet_f_at(0, 0, 1), f, UINT64_MAX, LDFS_REFUSED_RANGES);
+    refused("F, chosen check 1, settled", sheet_f_at(LDFS_NO_PLAN, 1, 1), f, UINT64_MAX, LDFS_REFUSED_RANGES);
+}
+
+/* A junction's own field, with check 0 chosen. What comes behind it is the answer. */
+static uint8_t *put_junction(uint8_t *at, uint32_t value, uint8_t mark)
+{
+    static const uint8_t field[LDFS_JUNCTION_CHECKS] = {LDFS_JUNCTION_TAG, 0, 6};
+    memcpy(at, field, sizeof field);
+    put_big(at + LDFS_JUNCTION_VALUE, value);
+    at[LDFS_JUNCTION_MARK] = mark;
+    return at + sizeof field;
+}
+
+/* A check whose findings are the stages from one to another. What comes behind it is the answer. */
+static uint8_t *put_check(uint8_t *at, uint32_t cost, uint8_t from, uint8_t to)
+{
+    at[0] = LDFS_CHECK_TAG;
+    at[1] = 0;
+    at[2] = (uint8_t)(4 + 2 * (to - from + 1));
+    put_big(at + LDFS_CHECK_COST, cost);
+    at += LDFS_CHECK_FINDINGS;
+    for (uint8_t finding = from; finding <= to; finding++) {
+        *at++ = 0;
+        *at++ = finding;
+    }
+    return at;
+}
+
+/* Sheet I; or, with one check at junction 0, whose findings are 1, 2 and 13. Costs double from stage to stage, back from ending 12. */
+enum { I_ENDING = 12, I_EMPTY = 13, I_MOST = 400 };
+
+static size_t make_sheet_i(uint8_t *sheet, bool one_check)
+{
+    static const uint8_t head[HEAD_BYTES] = {1, 0, 5, WHOLE, 0, I_EMPTY + 1, 0, 0};
+    static const uint8_t ending[ENDING_BYTES] = {LDFS_ENDING_TAG, 0, 9};
+    memcpy(sheet, head, sizeof head);
+    uint8_t *at = put_junction(sheet + HEAD_BYTES, LDFS_CEILING, 0);
+    if (!one_check)
+        at = put_check(at, 1, I_EMPTY, I_EMPTY);
+    at = put_check(at, 1, 1, one_check ? 3 : 2);
+    if (one_check)
+        at[-1] = I_EMPTY;
+    for (uint8_t stage = 1; stage < I_ENDING; stage++) {
+        uint32_t least = 1000000u << (I_ENDING - stage);
+        at = put_junction(at, least < LDFS_CEILING ? least : LDFS_CEILING, 1);
+        at = put_check(at, 1000000, (uint8_t)(stage + 1), I_ENDING);
+    }
+    memcpy(at, ending, sizeof ending);
+    put_big(at + LDFS_ENDING_COST, 1000000);
+    put_big(at + LDFS_ENDING_VALUE, 1000000);
+    at[LDFS_ENDING_MARK] = 1;
+    at = put_junction(at + ENDING_BYTES, LDFS_CEILING, 0);
+    return (size_t)(at - sheet);
+}
+
+/* Junctions without checks behind others: a plan past them, none at all, and one at the ceiling [S11.35 to S11.40]. */
+static void no_check_left(void)
+{
+    uint8_t sheet[I_MOST];
+    settles("sheet G, worst", sheet_g, sizeof sheet_g, WORST, 130, 4, 5);
+    settles("sheet G, whole", sheet_g, sizeof sheet_g, WHOLE, 130, 4, 5);
+    memcpy(sheet, sheet_h, sizeof sheet_h);
+    solve_expecting("sheet H", sheet, sizeof sheet_h, UINT64_MAX, LDFS_NONE, LDFS_NO_PLAN, 3, 3);
+    expect_no_plan(sheet + STAGE_0);
+    expect_no_plan(sheet + H_STAGE_1);
+    memcpy(sheet, sheet_h, sizeof sheet_h);
+    solve_expecting("sheet H, budget 2", sheet, sizeof sheet_h, 2, LDFS_STOPPED, 10, 2, 2);
+    solve_expecting("that sheet carried on", sheet, sizeof sheet_h, UINT64_MAX, LDFS_NONE, LDFS_NO_PLAN, 2, 1);
+
+    size_t length = make_sheet_i(sheet, false);
+    solve_expecting("sheet I", sheet, length, UINT64_MAX, LDFS_OVER, LDFS_CEILING, 1, 1);
+    expect(sheet[STAGE_0 + LDFS_JUNCTION_CHOSEN] == 1, "check 1 is chosen");
+    length = make_sheet_i(sheet, true);
+    solve_expecting("I, one check at junction 0", sheet, length, UINT64_MAX, LDFS_NONE, LDFS_NO_PLAN, 2, 2);
+
+    refused("an ending at 1,000,000,001", ending_70_at(LDFS_NO_PLAN), sizeof ending_70, UINT64_MAX, LDFS_REFUSED_VALUES);
+    refused("an ending at 1,000,000,002", ending_70_at(LDFS_NO_PLAN + 1), sizeof ending_70, UINT64_MAX, LDFS_REFUSED_RANGES);
+    refused("F without its last byte", sheet_f, LDFS_SHEET_LEAST - 1, UINT64_MAX, LDFS_REFUSED_SIZE);
+    refused("one ending without its last byte", ending_70, sizeof ending_70 - 1, UINT64_MAX, LDFS_REFUSED_FIELDS);
+}
+
 static void every_refusal(void)
 {
     const size_t a = sizeof sheet_a, b = sizeof sheet_b;
     refused_for_want_of_room();
     slices_of_no_bytes();
-    refused("19 bytes", sheet_a, LDFS_SHEET_LEAST - 1, UINT64_MAX, LDFS_REFUSED_SIZE);
+    refused("16 bytes", sheet_a, LDFS_SHEET_LEAST - 1, UINT64_MAX, LDFS_REFUSED_SIZE);
     refused("4,097 stages", endings(LDFS_STAGES_MOST + 1), MOST_BYTES, UINT64_MAX, LDFS_REFUSED_HEAD);
     refused("number of stages 0", changed(sheet_b, b, B_STAGES_LOW, 0), b, UINT64_MAX, LDFS_REFUSED_HEAD);
     refused("check cost 0 and a cut last field", changed(sheet_a, a, A_FIRST_COST, 0), a - 1, UINT64_MAX, LDFS_REFUSED_FIELDS);
@@ -472,6 +628,8 @@ int main(void)
     chain("chain, ending 1,000,000", 1000000, LDFS_OVER, LDFS_CEILING);
     most_stages();
     listed_several_times();
+    one_junction_without_checks();
+    no_check_left();
     every_refusal();
     if (failures > 0) {
         printf("%d not as expected\n", failures);

@@ -8,6 +8,7 @@
 #include <string.h>
 
 #define CEILING 1000000000u
+#define NONE 1000000001u
 #define MOST_COST 1000000u
 #define MOST_STATES 4096u
 
@@ -93,7 +94,16 @@ static unsigned successor(const uint8_t *action, unsigned i)
     return get16(action + 7 + 2 * i);
 }
 
-/* the price of a check by the current values */
+/* seldom asked, and so kept out of the loops */
+static __attribute__((noinline, cold)) bool any_none(const struct search *w, const uint8_t *action)
+{
+    for (unsigned i = 0; i < successors(action); i++)
+        if (get32(value_of(w, successor(action, i))) == NONE)
+            return true;
+    return false;
+}
+
+/* the price of a check by the current values; only one that reaches the ceiling can be none */
 static uint32_t price(const struct search *w, const uint8_t *action)
 {
     uint64_t joined = 0;
@@ -105,7 +115,9 @@ static uint32_t price(const struct search *w, const uint8_t *action)
             joined = value;
     }
     joined += get32(action + 3);
-    return joined < CEILING ? (uint32_t)joined : CEILING;
+    if (joined < CEILING)
+        return (uint32_t)joined;
+    return any_none(w, action) ? NONE : CEILING;
 }
 
 /* Questions 3 to 8; each answers whether the sheet passes. */
@@ -150,8 +162,6 @@ static bool states_good(struct search *w)
             at += length;
             actions++;
         }
-        if (actions == 0)
-            return false;
     }
     return at == w->length;
 }
@@ -160,7 +170,7 @@ static bool numbers_good(const struct search *w, unsigned state)
 {
     const uint8_t *at = state_at(w, state);
     const uint8_t *value = value_of(w, state);
-    if (get32(value) > CEILING || value[4] > 1)
+    if (get32(value) > NONE || value[4] > 1)
         return false;
     if (at[0] == TERMINAL)
         return get32(at + 3) <= MOST_COST;
@@ -171,7 +181,7 @@ static bool numbers_good(const struct search *w, unsigned state)
             return false;
         actions++;
     }
-    return value[4] == 0 ? value[5] == 0 : value[5] < actions;
+    return value[4] == 0 || actions == 0 ? value[5] == 0 : value[5] < actions;
 }
 
 static bool order_good(const struct search *w, unsigned state)
@@ -212,6 +222,8 @@ static bool mark_good(const struct search *w, unsigned state)
     if (at[0] == TERMINAL)
         return get32(value) == get32(at + 3);
     const uint8_t *a = at + 9;
+    if (!action_here(w, a))
+        return get32(value) == NONE;
     for (unsigned i = 0; i < value[5]; i++)
         a = next_action(a);
     for (unsigned i = 0; i < successors(a); i++)
@@ -230,7 +242,7 @@ static bool all_good(const struct search *w, bool (*good)(const struct search *,
 
 static uint32_t refusal(struct search *w)
 {
-    if (w->length < 20 || w->length > 60000)
+    if (w->length < 17 || w->length > 60000)
         return 2;
     if (!head_good(w))
         return 3;
@@ -304,13 +316,20 @@ static enum visit visit(struct search *w, unsigned state)
             return SUCCESS;
         }
     }
-    uint32_t least = CEILING;
+    uint32_t least = NONE;
     for (const uint8_t *a = at + 9; action_here(w, a); a = next_action(a)) {
         uint32_t x = price(w, a);
         if (x < least)
             least = x;
     }
-    return update(w, state, least) ? FAILURE : HALT;
+    if (!update(w, state, least))
+        return HALT;
+    if (number > 0)
+        return FAILURE;
+    /* it has no checks */
+    cell[4] = 1;
+    cell[5] = 0;
+    return SUCCESS;
 }
 
 /* The call. */
@@ -349,5 +368,5 @@ uint32_t plain_solve(uint8_t *sheet, size_t sheet_length, uint8_t *table, size_t
     put_little(result + 16, w.raises, 8);
     if (way == HALT)
         return 102;
-    return value < CEILING ? 100 : 101;
+    return value < CEILING ? 100 : value == CEILING ? 101 : 103;
 }

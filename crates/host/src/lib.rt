@@ -123,6 +123,7 @@ fn outcome_number(o: Outcome) -> u32
         Outcome::Settled => 100,
         Outcome::Over => 101,
         Outcome::Stopped => 102,
+        Outcome::None => 103,
     }
 }
 

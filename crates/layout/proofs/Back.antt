@@ -72,20 +72,14 @@ module _ (r : List ℕ) (none : getD r 0 0 ≡ actionTag → ⊥) where
       rw (append-assoc, action-fits a rest (h .0), action-back a rest, next, ← drop-drop (actionsLong m rest), next, read)
       (good, refl, past)
 
-first-tag : (acts : List Action) (r : List ℕ) → 1 ≤ length acts → getD (actionsBytes acts ++ r) 0 0 ≡ actionTag
-unfolding actionsBytes
-first-tag [] r some = absurd (omega arith)
-first-tag (a ∷ more) r some = refl
-
 -- One state's field, with r behind it.
 terminal-fits : (cost : ℕ) (c : Cell) (r : List ℕ) → terminalFits (nodeBytes (terminal cost) c ++ r) ≡ true
 unfolding terminalFits nodeBytes be16 all
 terminal-fits cost c r = rw (le-leb 12 (length (nodeBytes (terminal cost) c ++ r)) (omega arith))
 
-header-fits : (acts : List Action) (c : Cell) (r : List ℕ) → 1 ≤ length acts →
-    headerFits (nodeBytes (decision acts) c ++ r) ≡ true
+header-fits : (acts : List Action) (c : Cell) (r : List ℕ) → headerFits (nodeBytes (decision acts) c ++ r) ≡ true
 unfolding headerFits nodeBytes be16 all
-header-fits acts c r some = rw (le-leb 9 (length (nodeBytes (decision acts) c ++ r)) (omega arith), first-tag acts r some)
+header-fits acts c r = rw (le-leb 9 (length (nodeBytes (decision acts) c ++ r)) (omega arith))
 
 -- States: they are in place, and their nodes and their cells read back.
 abbrev NodesBack : List Node → List Cell → Type 0
@@ -106,8 +100,8 @@ nodes-back (terminal cost ∷ ns) (c ∷ cells) e h ch =
     (ih .0, refl, ap (λ (i : ℕ). cell (c .value) (c .mark) i ∷ cells) (sym z))
 nodes-back (decision acts ∷ ns) (c ∷ cells) e h ch =
     let ih = nodes-back ns cells (omega arith) (h .1) (λ s lt. ch (suc s) (omega arith)) in
-    let a = actions-back (nodesBytes ns cells) (no-action ns cells) maxActions acts (h .0 .0 .1) (h .0 .1) in
-    rw (header-fits acts c (nodesBytes ns cells) (h .0 .0 .0), four (c .value), a .0, a .1, a .2, ih .1, ih .2) (ih .0, refl, refl)
+    let a = actions-back (nodesBytes ns cells) (no-action ns cells) maxActions acts (h .0 .0) (h .0 .1) in
+    rw (header-fits acts c (nodesBytes ns cells), four (c .value), a .0, a .1, a .2, ih .1, ih .2) (ih .0, refl, refl)
 
 module _ (p : Problem) (cells : List Cell) (h : Shaped p cells) where
   body : NodesBack (p .nodes) cells

@@ -126,10 +126,6 @@ actions-shaped =
     (λ m r e. rw e (tt, omega arith))
     (λ m r is fits ih. rw is ((action-few r fits, ih .0), omega arith))
 
-some-action : (m : ℕ) (r : List ℕ) → tag r ≡ actionTag → 1 ≤ length (actionsRead (suc m) r)
-unfolding actionsRead
-some-action m r is = rw is (omega arith)
-
 -- One state's field.
 module _ (r : List ℕ) (byte : Bytes r) where
   terminal-same : tag r ≡ terminalTag → terminalFits r ≡ true →
@@ -141,7 +137,7 @@ module _ (r : List ℕ) (byte : Bytes r) where
       peel 12 0 r (omega (arith, leb-true)) ∙ cc
 
   module _ (fits : decisionFits r ≡ true) where
-    decision-parts : (tag r ≡ decisionTag) × (be16 r 1 ≡ decisionLength) × (9 ≤ length r) × (tag (drop 9 r) ≡ actionTag)
+    decision-parts : (tag r ≡ decisionTag) × (be16 r 1 ≡ decisionLength) × (9 ≤ length r)
     unfolding decisionFits headerFits
     decision-parts = omega (arith, leb-true, eqb-true, all-true _ (also-true _ _ fits .0))
 
@@ -158,8 +154,7 @@ module _ (r : List ℕ) (byte : Bytes r) where
         peel 9 0 r (e .2) ∙ cc
 
     decision-shaped : NodeShaped (decision (actionsRead maxActions (drop 9 r)))
-    decision-shaped =
-        let h = actions-shaped maxActions (drop 9 r) actions-fit in ((some-action 15 (drop 9 r) (decision-parts .3), h .1), h .0)
+    decision-shaped = let h = actions-shaped maxActions (drop 9 r) actions-fit in (h .1, h .0)
 
 -- r is what n states with these nodes and cells write, and they have the shape.
 record Written (n : ℕ) (r : List ℕ) (ns : List Node) (cells : List Cell) : Type 0 where

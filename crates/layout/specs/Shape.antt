@@ -6,21 +6,18 @@ use lib.ListN.{length, set}
 use Rattle.model.specs.Problem.{Action, Node, terminal, decision, Problem, Cell, cell, states, nodeAt, cellOf}
 use Rattle.model.specs.Limits.{maxStates, maxActions, maxSuccessors}
 
--- an action has 1 to 16 successors, a decision 1 to 16 actions
+-- an action has 1 to 16 successors
 abbrev pub FewSuccessors : List ℕ → Type 0
 FewSuccessors ts = (1 ≤ length ts) × (length ts ≤ maxSuccessors)
-
-abbrev pub FewActions : List Action → Type 0
-FewActions acts = (1 ≤ length acts) × (length acts ≤ maxActions)
 
 abbrev pub ActionsShaped : List Action → Type 0
 ActionsShaped [] = Unit {0}
 ActionsShaped (a ∷ more) = FewSuccessors (a .successors) × ActionsShaped more
 
--- a decision has 1 to 16 actions, each with 1 to 16 successors
+-- a decision has 0 to 16 actions, each with 1 to 16 successors
 abbrev pub NodeShaped : Node → Type 0
 NodeShaped (terminal cost) = Unit {0}
-NodeShaped (decision acts) = FewActions acts × ActionsShaped acts
+NodeShaped (decision acts) = (length acts ≤ maxActions) × ActionsShaped acts
 
 abbrev pub NodesShaped : List Node → Type 0
 NodesShaped [] = Unit {0}

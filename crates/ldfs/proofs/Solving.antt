@@ -8,7 +8,7 @@ use borrow.Author.Tests.{lt-ltb, le-ltb, le-leb}
 use lib.ListN.{length, replicate, length-append, length-drop, length-replicate}
 use Rattle.model.specs.declared.Answer.{Answer}
 use Rattle.model.specs.declared.Outcome.{Outcome}
-use Rattle.model.specs.declared.Outcome.the-variants.{Settled, Over, Stopped}
+use Rattle.model.specs.declared.Outcome.the-variants.{Settled, Over, Stopped, None}
 use Rattle.model.specs.Tests.{fork}
 use Rattle.model.specs.Problem.{Cell, states, cellOf, valueOf, solved}
 use Rattle.model.specs.Format.{Bytes, be16, offset, write}
@@ -18,7 +18,8 @@ use Rattle.model.specs.Questions.{question9, Question, question, checkQuestions
 use Rattle.model.specs.Questions.{sheetRefusalUnder, refusalUnder}
 use Rattle.model.proofs.QuestionLaws.{AllYes, none-no}
 use Rattle.model.specs.Ldfs.{Search, searchOf, work}
-use Rattle.model.specs.Report.{outcomeOf, cellsAfter, raisesOf, refused, onRefusal, answerUnder, bytesUnder, refusedTable, tableUnder}
+use Rattle.model.specs.Report.{outcomeAt, outcomeOf, cellsAfter, raisesOf, refused, onRefusal, answerUnder, bytesUnder}
+use Rattle.model.specs.Report.{refusedTable, tableUnder}
 use Rattle.layout.proofs.Index.{states-within, offsets-count}
 use Rattle.theory.proofs.LimitLaws.{sheet-raised, yes-accepted, refusals-left, room-yes, room-no}
 use Rattle.theory.proofs.Accepted.{asked-problem, asked-cells}
@@ -77,12 +78,16 @@ module _ (s : List ℕ) (budget : ℕ) {t s′ : List ℕ} {w : PassesMade}
 -- an outcome by the mark and the value of a cell
 module _ (c : Cell) {marked : Bool} {price : ℕ} (mark : marked ≡ solved c) (v : price ≡ c .value) where
   pub settled : marked ≡ true → price < 1000000000 → Settled ≡ outcomeOf c
-  unfolding outcomeOf ceiling
+  unfolding outcomeOf outcomeAt ceiling
   settled e lt = rw (← mark, e, ← v, lt-ltb price 1000000000 lt)
 
-  pub over : marked ≡ true → 1000000000 ≤ price → Over ≡ outcomeOf c
-  unfolding outcomeOf ceiling
-  over e le = rw (← mark, e, ← v, le-ltb price 1000000000 le)
+  pub no-plan : marked ≡ true → 1000000000 ≤ price → 1000000000 < price → None ≡ outcomeOf c
+  unfolding outcomeOf outcomeAt ceiling
+  no-plan e le lt = rw (← mark, e, ← v, le-ltb price 1000000000 le, lt-ltb 1000000000 price lt)
+
+  pub over : marked ≡ true → 1000000000 ≤ price → price ≤ 1000000000 → Over ≡ outcomeOf c
+  unfolding outcomeOf outcomeAt ceiling
+  over e le ge = rw (← mark, e, ← v, le-ltb price 1000000000 le, le-ltb 1000000000 price ge)
 
   pub stopped : marked ≡ false → Stopped ≡ outcomeOf c
   unfolding outcomeOf

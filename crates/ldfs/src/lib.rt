@@ -37,13 +37,15 @@ pub fn refusal(n: u32, budget: u64) -> Answer
     }
 }
 
-// Settled where the start is marked below the ceiling, over where it is marked at it, else stopped.
+// Settled where the start is marked below the ceiling, none where it is marked above it, over where it is marked at it, else stopped.
 fn outcome(marked: bool, price: u64) -> Outcome
     ensures { λ r. ⌜ ((c : Cell) → marked ≡ solved c → price ≡ c .value → r ≡ outcomeOf c) ⌝ }
 {
     if marked {
         if price < LONG_CEILING {
             Outcome::Settled
+        } else if LONG_CEILING < price {
+            Outcome::None
         } else {
             Outcome::Over
         }

@@ -11,11 +11,13 @@ use Rattle.model.specs.declared.Outcome.the-variants.{Settled}
 use Rattle.model.specs.Format.{Bytes}
 use Rattle.model.specs.Read.{problemOf, cellsOf}
 use Rattle.model.specs.Questions.{refusal}
-use Rattle.model.specs.Report.{largest, onRefusal, answerTo, bytesAfter, indexTable, tableAfter, tableUnder}
+use Rattle.model.specs.Policy.{Closed, written as writtenPlan}
+use Rattle.model.specs.Report.{number, largest, onRefusal, answerTo, bytesAfter, indexTable, tableAfter, tableUnder}
 use Rattle.sheet.proofs.Laws.{own, indexed}
 use Rattle.theory.proofs.Accepted.{asked-problem, asked-cells}
 use Rattle.theory.proofs.Sheets.{Stands, accepted-stands, stands-problem, stands-cells, unrefused}
 use Rattle.theory.proofs.Called.{answer-refused, Called, call-does}
+use Rattle.theory.proofs.Demands.{demand2}
 use Rattle.ldfs.specs.Made.{Solved}
 use Rattle.listing.specs.declared.Listed.{Listed}
 use Rattle.listing.specs.declared.Listed.the-variants.{TooShort, Written}
@@ -25,12 +27,15 @@ use Rattle.listing.proofs.Writing.{wrote-behind}
 
 -- a sheet and its index after a call that is not refused
 module _ (s t : List ℕ) (budget : ℕ) (bytes : Bytes s) where
-  unrefused-worked : refusal s (length t) budget ≡ 0 → Listable (bytesAfter s (length t) budget) (tableAfter s t budget)
+  unrefused-worked : refusal s (length t) budget ≡ 0 →
+      Closed (problemOf s) (writtenPlan (cellsOf (bytesAfter s (length t) budget))) (problemOf s .start) →
+      Listable (bytesAfter s (length t) budget) (tableAfter s t budget)
   unfolding tableUnder onRefusal indexTable
-  unrefused-worked e = record {
+  unrefused-worked e complete = record {
     sheet = own (indexed _ (h .is) (h .asked .shaped) filled);
     formed = rw (stands-problem _ _ _ h) (asked-problem _ _ (h .asked));
     consistent = rw (stands-problem _ _ _ h, stands-cells _ _ _ h) (asked-cells _ _ (h .asked));
+    complete = rw (stands-problem _ _ _ h) complete;
   }
     where
       filled : tableAfter s t budget ≡ indexTable (problemOf s) (length t)
@@ -46,7 +51,7 @@ module _ (s t : List ℕ) (budget : ℕ) (bytes : Bytes s) where
   settled-worked e = go (refusal s (length t) budget) refl
     where
       go : (n : ℕ) → refusal s (length t) budget ≡ n → Listable (bytesAfter s (length t) budget) (tableAfter s t budget)
-      go zero r = unrefused-worked r
+      go zero r = unrefused-worked r (demand2 s bytes (length t) budget .settled (ap number e) .best .complete)
       go (suc n) r = let a = answer-refused s (length t) budget n r in let z : _≡_ {A = ℕ} 0 1 = cc in absurd (omega arith)
 
   -- and as `solve` left them

@@ -1,4 +1,5 @@
 pub mod Writing
+pub mod Planned
 pub mod Reaching
 pub mod Choices
 pub mod Runs

@@ -1,5 +1,6 @@
--- The definitions give the text of sheet A (S11.16), of sheet C, two of whose findings are equally dear (S11.17 to S11.19), and of sheet E,
--- which lists findings several times (S11.30), and each outcome's line one.
+-- The definitions give the text of sheet A (S11.16), of sheet C, two of whose findings are equally dear (S11.17 to S11.19), of sheet E,
+-- which lists findings several times (S11.30), of sheets G and H, which have a junction without checks (S11.41), and each outcome's line
+-- one.
 use Prim.Native.Nat.{ℕ}
 use mathlib.Core.Path.{_≡_, refl}
 use mathlib.Core.List.{List, [], _∷_, _++_}
@@ -7,7 +8,8 @@ use Rattle.model.specs.declared.Outcome.the-variants.{Over, Stopped}
 use Rattle.model.proofs.Computing.{computing}
 use Rattle.model.specs.Limits.{maxStates}
 use Rattle.model.specs.Report.{largest}
-use Rattle.model.specs.Rows.{sheetA, sheetC, sheetE}
+use Rattle.model.specs.Problem.{worst}
+use Rattle.model.specs.Rows.{sheetA, sheetC, sheetE, sheetG, sheetH}
 use Rattle.listing.specs.Text.{ascii, digits}
 use Rattle.listing.specs.Listing.{lineOne, listed, reachedBelow, stateLines, listing}
 
@@ -41,6 +43,16 @@ pub printed-E :
     ascii "settled 41 4 5\nstage 0 check 0 value 41 by 2\nstage 1 end value 5\nstage 2 end value 7\n"
 unfolding computing digits listed reachedBelow stateLines listing
 printed-E = refl
+
+-- S11.41: past a check that leads to a junction without checks, and where every check does
+pub printed-G :
+    listing (sheetG worst) maxStates ≡ ascii "settled 130 4 5\nstage 0 check 1 value 130 by 2\nstage 2 end value 30\n"
+unfolding computing digits listed reachedBelow stateLines listing
+printed-G = refl
+
+pub printed-H : listing sheetH maxStates ≡ ascii "none 1000000001 3 3\n"
+unfolding computing digits listing
+printed-H = refl
 
 pub printed-refused : listing [] maxStates ≡ ascii "refused 2\n"
 unfolding computing digits listing

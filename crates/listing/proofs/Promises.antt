@@ -1,26 +1,26 @@
 -- The promises of a listing: its price is the least cost, the stages that it has lines for are those that the plan reaches, each has one,
 -- the finding that a line names is the dearest, and on a worst sheet the run along those findings costs the price.
 use Prim.Native.Nat.{ℕ, zero, suc, _<_, _≤_}
-use mathlib.Core.Path.{_≡_, refl, sym, subst, _∙_}
-use mathlib.Core.Bool.{Bool, true, false, _||_}
-use mathlib.Core.Logic.{_⊎_, inl, inr, ⊎-elim}
-use mathlib.Core.List.{List, [], _∷_, _++_, append-nil}
+use mathlib.Core.Path.{_≡_, refl, sym, subst}
+use mathlib.Core.Bool.{true}
+use mathlib.Core.Logic.{_⊎_, ⊎-elim}
+use mathlib.Core.Option.{some}
+use mathlib.Core.List.{List, _++_, append-nil}
 use native.Mathlib.Omega.{arith}
 use native.Mathlib.Nat.{eq-or-lt-of-le}
-use borrow.Author.Tests.{eqb-true, eq-eqb}
-use lib.Dec.{eqb}
+use borrow.Author.Tests.{eq-eqb}
 use Rattle.model.specs.declared.Answer.{Answer}
-use Rattle.model.proofs.TestLaws.{never, also-true, true-also}
-use Rattle.model.specs.Problem.{worst, Action, Node, terminal, decision, Problem, Cell, states, nodeAt, actionAt, cellOf, valueOf}
-use Rattle.model.specs.Problem.{_∈_, here, there}
+use Rattle.model.proofs.TestLaws.{true-also}
+use Rattle.model.specs.Problem.{worst, Action, Node, decision, Problem, Cell, states, nodeAt, actionAt, cellOf, valueOf}
+use Rattle.model.specs.Problem.{_∈_}
 use Rattle.model.specs.Format.{Bytes}
 use Rattle.model.specs.Read.{problemOf, cellsOf}
-use Rattle.model.specs.Limits.{ceiling}
+use Rattle.model.specs.Limits.{ceiling, noPlan}
 use Rattle.model.specs.Questions.{questions, First}
 use Rattle.model.specs.Policy.{Reach, arrived, onward, written}
 use Rattle.model.specs.Report.{number, largest, answerTo, bytesAfter}
 use Rattle.model.specs.QValue.{Dearest}
-use Rattle.model.specs.Demands.{Accepted, startCell, startCost}
+use Rattle.model.specs.Demands.{Accepted, startCell, startCost, NoPlan, PlansAbove}
 use Rattle.theory.specs.Consistent.{WellFormed, Consistent}
 use Rattle.theory.proofs.Sheets.{accepted-stands}
 use Rattle.theory.proofs.Called.{answer-first}
@@ -28,33 +28,11 @@ use Rattle.theory.proofs.Promises.{problem-of, cells-of, still-a-sheet, raises-
 use Rattle.theory.proofs.Outcomes.{numbered}
 use Rattle.theory.proofs.Demands.{demand2, worked-accepted}
 use Rattle.listing.specs.Text.{ascii}
-use Rattle.listing.specs.Listing.{field, chosenSuccessorsOf, chosenSuccessors, dearestChosen, listed, reachedBelow, reached}
+use Rattle.listing.specs.Listing.{field, chosenSuccessorsOf, chosenSuccessors, dearestChosen, reachedBelow, reached}
 use Rattle.listing.specs.Listing.{stateLines, EachOnce, Run, listing}
+use Rattle.listing.proofs.Planned.{or-left, or-right, in-listed, reached-reach, reached-chooses}
 use Rattle.listing.proofs.Once.{each-once}
 use Rattle.listing.proofs.Runs.{run-only, names-dearest, runs-on}
-
--- a test or another
-or-true : (a b : Bool) → (a || b) ≡ true → (a ≡ true) ⊎ (b ≡ true)
-or-true true b h = inl refl
-or-true false b h = inr h
-
-or-left : (a b : Bool) → a ≡ true → (a || b) ≡ true
-or-left a b h = rw h
-
-or-right : (a b : Bool) → b ≡ true → (a || b) ≡ true
-or-right true b h = refl
-or-right false b h = h
-
--- the test of a list is that a number is in it
-listed-in : (t : ℕ) (ts : List ℕ) → listed t ts ≡ true → t ∈ ts
-unfolding listed
-listed-in t [] h = never h
-listed-in t (u ∷ us) h = ⊎-elim (λ e. rw (eqb-true t u e) here) (λ e. there (listed-in t us e)) (or-true (eqb t u) (listed t us) h)
-
-in-listed : {t : ℕ} {ts : List ℕ} → t ∈ ts → listed t ts ≡ true
-unfolding listed
-in-listed (here {t} {ts}) = or-left (eqb t t) (listed t ts) (eq-eqb t t refl)
-in-listed (there {t} {u} {ts} m) = or-right (eqb t u) (listed t ts) (in-listed m)
 
 -- stage t has a line exactly where the plan that is written in the cells reaches it from the start
 abbrev pub ListedAsReached : Problem → List Cell → ℕ → Type 0
@@ -63,23 +41,6 @@ ListedAsReached p cells t =
     × (Reach p (written cells) (p .start) t → reached p cells t ≡ true)
 
 module _ (p : Problem) (cells : List Cell) where
-  -- one step more, at the end
-  step : (s t : ℕ) → Reach p (written cells) s t → (u : ℕ) → u ∈ chosenSuccessors p cells t → Reach p (written cells) s u
-  step s t arrived u m = go (nodeAt p t) refl m
-    where
-      go : (n : Node) → nodeAt p t ≡ n → u ∈ chosenSuccessorsOf n (cellOf cells t) → Reach p (written cells) t u
-      go (terminal cost) e m = absurd (elim m [ ])
-      go (decision acts) e m = onward e refl m arrived
-  step s t (onward e i v r) u m = onward e i v (step _ t r u m)
-
-  reached-reach : (n t : ℕ) → reachedBelow p cells n t ≡ true → Reach p (written cells) (p .start) t
-  unfolding reachedBelow
-  reached-reach zero t h = rw (eqb-true t (p .start) h) arrived
-  reached-reach (suc n) t h =
-      ⊎-elim (λ e. reached-reach n t e)
-      (λ e. let g = also-true _ _ e in step (p .start) n (reached-reach n n (g .0)) t (listed-in t (chosenSuccessors p cells n) (g .1)))
-      (or-true (reachedBelow p cells n t) _ h)
-
   -- what is reached stays so when more stages are looked at
   more : (n t : ℕ) → reachedBelow p cells n t ≡ true → (m : ℕ) → n ≤ m → reachedBelow p cells m t ≡ true
   unfolding reachedBelow
@@ -108,7 +69,8 @@ module _ (p : Problem) (cells : List Cell) where
     -- the lines are of the stages that the plan reaches
     reached-is : (t : ℕ) → ListedAsReached p cells t
     unfolding reachedBelow
-    reached-is t = (reached-reach t t, λ r. onwards r (more 0 (p .start) (eq-eqb (p .start) (p .start) refl) (p .start) (omega arith)))
+    reached-is t =
+        (reached-reach p cells t t, λ r. onwards r (more 0 (p .start) (eq-eqb (p .start) (p .start) refl) (p .start) (omega arith)))
 
     -- what the plan reaches from a stage is a stage, and so has a line where it is reached from the start
     reach-within : {s t : ℕ} → Reach p (written cells) s t → s < states p → t < states p
@@ -151,14 +113,15 @@ module _ (s : List ℕ) (bytes : Bytes s) (entries : ℕ) where
 
   -- settled: the least cost of the start, and then a line for each stage that the plan in the sheet reaches
   pub settled-prints : number (answer .outcome) ≡ 100 →
-      (listing s entries ≡ line (ascii "settled ") (startCost s) ++ stateLines (problemOf s) (cellsOf after) (states (problemOf s)))
+      (startCost s ≡ some (answer .price))
+      × (listing s entries ≡ line (ascii "settled ") (answer .price) ++ stateLines (problemOf s) (cellsOf after) (states (problemOf s)))
       × ((t : ℕ) → ListedAsReached (problemOf s) (cellsOf after) t)
   unfolding listing
-  settled-prints e =
-      let d = demand2 s bytes entries largest .settled e in (
-        rw (numbered s entries largest .settled e, d .price, still-a-sheet s (was-accepted e) entries largest .1),
-        reached-is (problemOf s) (cellsOf after) (formed e),
-      )
+  settled-prints e = (
+    demand2 s bytes entries largest .settled e .price,
+    rw (numbered s entries largest .settled e, still-a-sheet s (was-accepted e) entries largest .1),
+    reached-is (problemOf s) (cellsOf after) (formed e),
+  )
 
   -- S10.3: each of those stages has one line, however often it is listed, and the lines ascend
   pub lines-once : EachOnce (problemOf s) (cellsOf after) (states (problemOf s))
@@ -166,32 +129,43 @@ module _ (s : List ℕ) (bytes : Bytes s) (entries : ℕ) where
 
   -- S10.3: what a junction's line names by `by` is the dearest finding of its chosen check (S2.9), by the values as work left them
   pub line-names : number (answer .outcome) ≡ 100 → (t : ℕ) (acts : List Action) → nodeAt (problemOf s) t ≡ decision acts →
+      reached (problemOf s) (cellsOf after) t ≡ true →
       Dearest (valueOf (cellsOf after)) (actionAt acts (cellOf (cellsOf after) t .chosen) .successors)
       (dearestChosen (problemOf s) (cellsOf after) t)
-  line-names e = names-dearest (problemOf s) (cellsOf after) (formed e) (consistent e)
+  line-names e t acts node has =
+      let complete = demand2 s bytes entries largest .settled e .best .complete in
+      names-dearest (problemOf s) (cellsOf after) (formed e) (consistent e) t acts node
+      (reached-chooses (problemOf s) (cellsOf after) complete t t has acts node)
 
   -- S10.9: on a worst sheet the run that begins at the start and goes on by `by` comes to an ending, every stage of it has a line, its
   -- checks and that ending cost the price together, and there is no other
   pub run-costs : number (answer .outcome) ≡ 100 → problemOf s .kind ≡ worst →
-      (on : List ℕ) × Run (problemOf s) (cellsOf after) (problemOf s .start) on (startCost s)
+      (on : List ℕ) × Run (problemOf s) (cellsOf after) (problemOf s .start) on (answer .price)
       × ((t : ℕ) → t ∈ on → (t < states (problemOf s)) × (reached (problemOf s) (cellsOf after) t ≡ true))
       × ((also-on : List ℕ) (c : ℕ) → Run (problemOf s) (cellsOf after) (problemOf s .start) also-on c →
-      (also-on ≡ on) × (c ≡ startCost s))
+      (also-on ≡ on) × (c ≡ answer .price))
   run-costs e kind =
       let demanded = demand2 s bytes entries largest in
       let d = demanded .settled e in
-      let value : startCell s after .value ≡ startCost s = sym (demanded .price-is-value (omega arith)) ∙ d .price in
+      let value : startCell s after .value ≡ answer .price = sym (demanded .price-is-value (omega arith)) in
       let (on, run, reach) = runs-on (problemOf s) (cellsOf after) (formed e) (consistent e) kind (problemOf s .start) (d .marked)
-      (omega (arith, d .below, d .price)) in
+      (omega (arith, d .below)) in
       let costs = subst (Run (problemOf s) (cellsOf after) (problemOf s .start) on) value run in
       (on, costs, (λ t m. has-line (problemOf s) (cellsOf after) (formed e) (reach t m)), λ also-on c other. run-only costs other)
 
-  -- over: the ceiling, which the least cost of the start is at least
-  pub over-prints : number (answer .outcome) ≡ 101 → (listing s entries ≡ line (ascii "over ") ceiling) × (ceiling ≤ startCost s)
+  -- over: the ceiling; there are complete plans from the start, and all cost that or more
+  pub over-prints : number (answer .outcome) ≡ 101 → (listing s entries ≡ line (ascii "over ") ceiling) × PlansAbove (problemOf s)
   unfolding listing
   over-prints e =
       let d = demand2 s bytes entries largest .over e in
-      (rw (numbered s entries largest .over e, d .price) (append-nil (line (ascii "over ") ceiling)), d .above)
+      (rw (numbered s entries largest .over e, d .price) (append-nil (line (ascii "over ") ceiling)), d .plans)
+
+  -- none: 1,000,000,001, and nothing follows; there is no complete plan from the start
+  pub none-prints : number (answer .outcome) ≡ 103 → (listing s entries ≡ line (ascii "none ") noPlan) × NoPlan (problemOf s)
+  unfolding listing
+  none-prints e =
+      let d = demand2 s bytes entries largest .none e in
+      (rw (numbered s entries largest .none e, d .price) (append-nil (line (ascii "none ") noPlan)), d .no-plan)
 
   -- it never prints `stopped`
   pub never-stopped : number (answer .outcome) ≡ 102 → ⊥

@@ -10,15 +10,14 @@ use lib.Dec.{eqb}
 use lib.ListN.{length, getD, take, drop, set, replicate, length-set, length-replicate, getD-replicate}
 use lib.Seq.{take-all, take-suc, getD-set-same, getD-set-other}
 use Rattle.model.specs.Tests.{also}
-use Rattle.model.specs.Problem.{Action, Node, decision, Problem, Cell, states, nodeAt, cellOf, solved}
+use Rattle.model.specs.Problem.{Action, Node, decision, Problem, Cell, states, nodeAt, cellOf}
 use Rattle.model.specs.Format.{actionOffset}
 use Rattle.model.specs.Read.{actionRead, problemOf, cellsOf}
 use Rattle.sheet.specs.Sheet.{Within, Terminal, Decision, Priced}
 use Rattle.sheet.proofs.Laws.{is-terminal, is-decision, actionsAt}
-use Rattle.theory.specs.Consistent.{WellFormed, Consistent}
 use Rattle.search.proofs.Actions.{Turn, turn-is, turn-priced}
 use Rattle.listing.specs.Listing.{stateLine, chosenSuccessorsOf, chosenSuccessors, listed, reachedBelow, stateLines, maxStateLine}
-use Rattle.listing.specs.Put.{Wrote, Listable, flagged}
+use Rattle.listing.specs.Put.{Wrote, Listable, Chooses, flagged}
 use Rattle.listing.proofs.Writing.{wrote-none, wrote-length, wrote-behind}
 
 -- flags that go up one after the other
@@ -65,21 +64,13 @@ flagged-at f (u ∷ ts) t lt = flagged-at (set f u true) ts t (rw length-set lt)
 pub state-within : {s t : List ℕ} {i : ℕ} → Listable s t → i < states (problemOf s) → Within s t i
 state-within w lt = record { sheet = w .sheet; below = lt }
 
--- The action that is chosen at a decision exists: a solved one has it, and at an open one it is the first.
-pub chosen-in : (p : Problem) (cells : List Cell) → WellFormed p → Consistent p cells → (s : ℕ) (acts : List Action) →
-    nodeAt p s ≡ decision acts → cellOf cells s .chosen < length acts
-chosen-in p cells wf con s acts e = go (solved (cellOf cells s)) refl
-  where
-    go : (b : Bool) → solved (cellOf cells s) ≡ b → cellOf cells s .chosen < length acts
-    go true sol = con .sound s .settles acts e sol .exists
-    go false isOpen = rw (con .sound s .unchosen isOpen) (wf .has-action s acts e)
-
-module _ {s t : List ℕ} (w : Listable s t) {i : ℕ} (d : Decision s t i) where
+-- The action that is chosen at a decision which the plan reaches.
+module _ {s t : List ℕ} (w : Listable s t) {i : ℕ} (d : Decision s t i) (chooses : Chooses (problemOf s) (cellsOf s) i) where
   node : nodeAt (problemOf s) i ≡ decision (actionsAt (problemOf s) i)
   node = is-decision (nodeAt (problemOf s) i) (d .tag)
 
   pub chosen-exists : cellOf (cellsOf s) i .chosen < length (actionsAt (problemOf s) i)
-  chosen-exists = chosen-in (problemOf s) (cellsOf s) (w .formed) (w .consistent) i (actionsAt (problemOf s) i) node
+  chosen-exists = chooses (actionsAt (problemOf s) i) node
 
   module _ (o : ℕ) (at : o ≡ actionOffset (problemOf s) i (cellOf (cellsOf s) i .chosen)) where
     turn : Turn (problemOf s) i (cellOf (cellsOf s) i .chosen) o

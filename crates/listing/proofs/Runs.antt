@@ -4,16 +4,16 @@ use mathlib.Core.Path.{_≡_, refl}
 use mathlib.Core.Bool.{true}
 use mathlib.Core.List.{List, [], _∷_}
 use native.Mathlib.Omega.{arith}
+use lib.ListN.{length}
 use Rattle.model.specs.Problem.{worst, Action, Node, terminal, decision, Problem, Cell, states, nodeAt, actionAt, cellOf, valueOf, solved}
 use Rattle.model.specs.Problem.{_∈_, here, there}
-use Rattle.model.specs.Limits.{ceiling}
+use Rattle.model.specs.Limits.{ceiling, noPlan}
 use Rattle.model.specs.QValue.{Dearest}
 use Rattle.model.specs.Policy.{Reach, arrived, onward, written}
 use Rattle.theory.specs.Consistent.{WellFormed, Consistent}
 use Rattle.theory.proofs.Basics.{downward}
-use Rattle.theory.proofs.DearestLaws.{action-dearest, dearest-joined}
+use Rattle.theory.proofs.DearestLaws.{action-dearest, dearest-costs}
 use Rattle.listing.specs.Listing.{dearestChosen, Run, ends, goes}
-use Rattle.listing.proofs.Reaching.{chosen-in}
 
 -- from a state there is one such run at the most
 pub run-only : {p : Problem} {cells : List Cell} {s c d : ℕ} {on also-on : List ℕ} → Run p cells s on c →
@@ -26,10 +26,9 @@ run-only (goes e r) (goes e′ r′) = let (same, costs) = run-only r r′ in (c
 
 module _ (p : Problem) (cells : List Cell) (wf : WellFormed p) (con : Consistent p cells) where
   -- what a decision's line names is the dearest successor of its chosen action
-  pub names-dearest : (s : ℕ) (acts : List Action) → nodeAt p s ≡ decision acts →
+  pub names-dearest : (s : ℕ) (acts : List Action) → nodeAt p s ≡ decision acts → cellOf cells s .chosen < length acts →
       Dearest (valueOf cells) (actionAt acts (cellOf cells s .chosen) .successors) (dearestChosen p cells s)
-  names-dearest s acts e =
-      rw e (action-dearest p wf s (cellOf cells s .chosen) acts e (chosen-in p cells wf con s acts e) (valueOf cells))
+  names-dearest s acts e exists = rw e (action-dearest p wf s (cellOf cells s .chosen) acts e exists (valueOf cells))
 
   -- a run from s, over states that the plan reaches, that costs the value of s
   abbrev RunsOn : ℕ → Type 0
@@ -64,13 +63,13 @@ module _ (p : Problem) (cells : List Cell) (wf : WellFormed p) (con : Consistent
       go : (s : ℕ) → ((t : ℕ) → s < t → t < states p → Runs t) → solved (cellOf cells s) ≡ true →
           valueOf cells s < ceiling →
           (n : Node) → nodeAt p s ≡ n → RunsOn s
-      go s above sol small (terminal cost) e = stays s cost e (con .sound s .at-cost cost e sol)
-      go s above sol small (decision acts) e =
-          let d = names-dearest s acts e in
-          let settles = con .sound s .settles acts e sol in
+      go s above sol small (terminal cost) e = stays s cost e (con .sound s .at-end cost (rw e) sol)
+      go s above sol small (decision []) e = absurd (omega (arith, con .sound s .at-end noPlan (rw e) sol))
+      go s above sol small (decision (a ∷ more)) e =
+          let acts : List Action = a ∷ more in
+          let settles = con .sound s .settles acts e (omega arith) sol in
+          let d = names-dearest s acts e (settles .exists) in
           let (later, exists) = wf .forward s (cellOf cells s .chosen) (dearestChosen p cells s) acts e (d .among) in
-          let priced = rw kind at (settles .priced) in
-          let costs : valueOf cells s ≡ actionAt acts (cellOf cells s .chosen) .cost + valueOf cells (dearestChosen p cells s) =
-          omega (arith, priced, dearest-joined (valueOf cells) d) in
+          let costs = dearest-costs (valueOf cells) (actionAt acts (cellOf cells s .chosen)) d (rw kind at (settles .priced)) small in
           goes-on s acts e (d .among) costs
           (above (dearestChosen p cells s) later exists (settles .below (dearestChosen p cells s) (d .among)) (omega arith))

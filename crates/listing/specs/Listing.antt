@@ -6,7 +6,7 @@ use mathlib.Core.List.{List, [], _∷_, _++_}
 use lib.Dec.{eqb, leb}
 use lib.ListN.{length, drop}
 use Rattle.model.specs.declared.Outcome.{Outcome}
-use Rattle.model.specs.declared.Outcome.the-variants.{Refused, Settled, Over, Stopped}
+use Rattle.model.specs.declared.Outcome.the-variants.{Refused, Settled, Over, Stopped, None}
 use Rattle.model.specs.declared.Answer.{Answer}
 use Rattle.model.specs.Tests.{fork, also}
 use Rattle.model.specs.Problem.{Action, Node, terminal, decision, Problem, Cell, states, nodeAt, actionAt, cellOf, valueOf, _∈_}
@@ -32,6 +32,7 @@ lineOf (Refused n) a = field (ascii "refused ") n ++ ascii "\n"
 lineOf Settled a = figures (ascii "settled ") a
 lineOf Over a = figures (ascii "over ") a
 lineOf Stopped a = figures (ascii "stopped ") a
+lineOf None a = figures (ascii "none ") a
 
 abbrev pub lineOne : Answer → List ℕ
 lineOne a = lineOf (a .outcome) a
@@ -102,6 +103,7 @@ planOf (Refused n) s = []
 planOf Settled s = stateLines (problemOf s) (cellsOf s) (states (problemOf s))
 planOf Over s = []
 planOf Stopped s = []
+planOf None s = []
 
 -- S10.9: the run from the stage s that goes from each junction to the stage that its line names by `by`, until an ending: the stages on it,
 -- and what the checks on it and that ending cost together

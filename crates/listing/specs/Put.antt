@@ -1,10 +1,12 @@
 -- What the contracts of the private functions say.
-use Prim.Native.Nat.{ℕ, _+_, _≤_}
+use Prim.Native.Nat.{ℕ, _+_, _<_, _≤_}
 use mathlib.Core.Path.{_≡_}
 use mathlib.Core.Bool.{Bool, true}
 use mathlib.Core.List.{List, [], _∷_}
 use lib.ListN.{length, set}
+use Rattle.model.specs.Problem.{Action, decision, Problem, Cell, nodeAt, cellOf}
 use Rattle.model.specs.Read.{problemOf, cellsOf}
+use Rattle.model.specs.Policy.{Closed, written}
 use Rattle.layout.specs.Placed.{placed}
 use Rattle.sheet.specs.Sheet.{Sheet}
 use Rattle.theory.specs.Consistent.{WellFormed, Consistent}
@@ -15,11 +17,17 @@ pub record Wrote (before after : List ℕ) (at next : ℕ) (text : List ℕ) : T
   pub bytes : after ≡ placed at text before
   pub behind : next ≡ at + length text
 
--- what listing a sheet supposes: it is in place, its problem well formed and its cells consistent, as work leaves them
+-- what listing a sheet supposes: it is in place, its problem well formed and its cells consistent, as work leaves them, and the start's
+-- plan is complete, as it is when settled
 pub record Listable (s t : List ℕ) : Type 0 where
   pub sheet : Sheet s t (problemOf s) (cellsOf s)
   pub formed : WellFormed (problemOf s)
   pub consistent : Consistent (problemOf s) (cellsOf s)
+  pub complete : Closed (problemOf s) (written (cellsOf s)) (problemOf s .start)
+
+-- where stage i is a junction, its chosen check is one of its checks
+abbrev pub Chooses : Problem → List Cell → ℕ → Type 0
+Chooses p cells i = (acts : List Action) → nodeAt p i ≡ decision acts → cellOf cells i .chosen < length acts
 
 -- flags with some more of them up
 unfoldable pub flagged : List Bool → List ℕ → List Bool

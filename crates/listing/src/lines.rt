@@ -8,7 +8,7 @@ ghost use Rattle.sheet.specs.Sheet.{Within};
 ghost use Rattle.listing.specs.Text.{ascii};
 ghost use Rattle.listing.specs.Listing.{field, figures, lineOne, choiceOf, dearestChosen, lineEnd, stateLine};
 ghost use Rattle.listing.specs.Listing.{maxLineOne, maxStateLine};
-ghost use Rattle.listing.specs.Put.{Wrote, Listable};
+ghost use Rattle.listing.specs.Put.{Wrote, Listable, Chooses};
 use super::text::put_field;
 use super::text::put_word;
 use model::Answer;
@@ -55,6 +55,7 @@ pub(crate) fn put_answer(out: &mut [u8], at: usize, a: Answer) -> usize
         Outcome::Settled => put_figures(out, at, b"settled ", a),
         Outcome::Over => put_figures(out, at, b"over ", a),
         Outcome::Stopped => put_figures(out, at, b"stopped ", a),
+        Outcome::None => put_figures(out, at, b"none ", a),
     }
 }
 
@@ -82,6 +83,7 @@ fn put_choice(sheet: &[u8], table: &[u32], out: &mut [u8], at: usize, state: usi
 fn put_line_end(sheet: &[u8], table: &[u32], out: &mut [u8], at: usize, state: usize) -> usize
     requires { ⌜ Listable (now sheet) (now table) ⌝ }
     requires { ⌜ state < states (problemOf (now sheet)) ⌝ }
+    requires { ⌜ Chooses (problemOf (now sheet)) (cellsOf (now sheet)) state ⌝ }
     requires { ⌜ at + 25 ≤ length (now out) ⌝ }
     ensures { λ r. ⌜ Wrote (now (out .entry)) (now (out .exit)) at r
         (lineEnd (nodeAt (problemOf (now (sheet .entry))) state)
@@ -107,6 +109,7 @@ pub(crate) fn put_state(
 ) -> usize
     requires { ⌜ Listable (now sheet) (now table) ⌝ }
     requires { ⌜ state < states (problemOf (now sheet)) ⌝ }
+    requires { ⌜ Chooses (problemOf (now sheet)) (cellsOf (now sheet)) state ⌝ }
     requires { ⌜ at + maxStateLine ≤ length (now out) ⌝ }
     ensures { λ r. ⌜ Wrote (now (out .entry)) (now (out .exit)) at r
         (stateLine (problemOf (now (sheet .entry))) (cellsOf (now (sheet .entry))) state) ⌝ }

@@ -7,7 +7,7 @@ ghost use Rattle.model.specs.Problem.{states};
 ghost use Rattle.model.specs.Read.{problemOf, cellsOf, actionRead, actionFits};
 ghost use Rattle.model.specs.Limits.{maxStates};
 ghost use Rattle.listing.specs.Listing.{chosenSuccessors, reachedBelow, stateLines, planOf, maxStateLine};
-ghost use Rattle.listing.specs.Put.{Wrote, Listable, flagged};
+ghost use Rattle.listing.specs.Put.{Wrote, Listable, Chooses, flagged};
 ghost use Rattle.model.specs.declared.Outcome.the-variants.{Settled};
 use super::lines::put_state;
 use model::MAX_STATES;
@@ -40,6 +40,7 @@ fn flag_all(sheet: &[u8], at: usize, flags: &mut [bool])
 fn reach_on(sheet: &[u8], table: &[u32], flags: &mut [bool], state: usize)
     requires { ⌜ Listable (now sheet) (now table) ⌝ }
     requires { ⌜ (state < states (problemOf (now sheet))) × (states (problemOf (now sheet)) ≤ length (now flags)) ⌝ }
+    requires { ⌜ Chooses (problemOf (now sheet)) (cellsOf (now sheet)) state ⌝ }
     ensures { λ _. ⌜ now (flags .exit) ≡ flagged (now (flags .entry))
         (chosenSuccessors (problemOf (now (sheet .entry))) (cellsOf (now (sheet .entry))) state) ⌝ }
 {
@@ -107,5 +108,6 @@ pub(crate) fn put_plan(sheet: &[u8], table: &[u32], out: &mut [u8], at: usize, o
         Outcome::Refused(_) => at,
         Outcome::Over => at,
         Outcome::Stopped => at,
+        Outcome::None => at,
     }
 }

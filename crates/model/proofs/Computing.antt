@@ -6,15 +6,17 @@ use Rattle.model.specs.Format.{be16, be32, successorsBytes, actionsBytes
 use Rattle.model.specs.Format.{nodeSize, offsetsFrom}
 use Rattle.model.specs.Read.{actionFits, successorsRead, actionRead, actionsGood, actionsRead, actionsLong, terminalFits}
 use Rattle.model.specs.Read.{headerFits, decisionFits, nodesGood, nodesRead, cellsRead, kindOf, problemOf, cellsOf}
-use Rattle.model.specs.QValue.{join, joined, dearestFrom, dearest, leastFrom, least}
+use Rattle.model.specs.Cost.{amount, costOf, both}
+use Rattle.model.specs.QValue.{join, joined, dearestFrom, dearest, leastFrom}
 use Rattle.model.specs.Questions.{question1, question2, question3, question4, costsInRange, chosenInRange, cellInRange, question5}
 use Rattle.model.specs.Questions.{apart, ascending, successorsInOrder, question6}
 use Rattle.model.specs.Questions.{valueUnder, question7, allSolved, passedBy, markEarned, question8, question9, firstNo}
 use Rattle.model.specs.Questions.{sheetRefusalUnder, refusalUnder, acceptedUnder}
-use Rattle.model.specs.Earlier.{instead, strictRefusal, strictlyAccepted}
-use Rattle.model.specs.Ldfs.{onTest, onVisit, update, ifDear, visitAll, tryOne, tryAll, visitOpen, visit, onPass, passes, work}
-use Rattle.model.specs.Report.{outcomeOf, onRefusal, answerUnder, report, bytesUnder, indexTable, refusedTable, checkedTable}
-use Rattle.model.specs.Report.{tableUnder}
+use Rattle.model.specs.Earlier.{instead, strictRefusal, strictlyAccepted, joinedValues, hasCheck, checkedRefusal, checkedAccepted}
+use Rattle.model.specs.Ldfs.{onTest, onVisit, update, finish, ifDearBy, visitAllBy, tryOneBy, tryAllBy, visitOpenBy, visitBy}
+use Rattle.model.specs.Ldfs.{onPass, passesBy, workBy}
+use Rattle.model.specs.Report.{outcomeAt, outcomeOf, onRefusal, answerUnder, report, bytesUnder, indexTable, refusedTable}
+use Rattle.model.specs.Report.{checkedTable, tableUnder}
 
 -- fields written, and their offsets
 unfoldable computingBytes : Unit {0}
@@ -33,7 +35,7 @@ computingRead = tt
 
 -- limits, tests and prices
 unfoldable computingPrices : Unit {0}
-unfolding also all every ceiling join joined dearestFrom dearest leastFrom least
+unfolding also all every ceiling amount costOf both join joined dearestFrom dearest leastFrom
 computingPrices = tt
 
 -- questions 1 to 5
@@ -46,6 +48,11 @@ unfoldable computingOrder : Unit {0}
 unfolding apart ascending successorsInOrder question6 instead strictRefusal strictlyAccepted
 computingOrder = tt
 
+-- what was asked when every junction had to have a check
+unfoldable computingThen : Unit {0}
+unfolding joinedValues hasCheck checkedRefusal checkedAccepted
+computingThen = tt
+
 -- questions 7 to 9, and refusals
 unfoldable computingMarks : Unit {0}
 unfolding valueUnder question7 allSolved passedBy markEarned question8 question9 firstNo sheetRefusalUnder refusalUnder acceptedUnder
@@ -53,17 +60,17 @@ computingMarks = tt
 
 -- all questions
 unfoldable computingAsked : Unit {0}
-unfolding computingRanges computingOrder computingMarks
+unfolding computingRanges computingOrder computingThen computingMarks
 computingAsked = tt
 
 -- visits and passes
 unfoldable computingWork : Unit {0}
-unfolding onTest onVisit update ifDear visitAll tryOne tryAll visitOpen visit onPass passes work
+unfolding onTest onVisit update ifDearBy visitAllBy tryOneBy tryAllBy finish visitOpenBy visitBy onPass passesBy workBy
 computingWork = tt
 
 -- the answer of a call, and what it leaves
 unfoldable computingCalls : Unit {0}
-unfolding outcomeOf onRefusal answerUnder report bytesUnder indexTable refusedTable checkedTable tableUnder
+unfolding outcomeAt outcomeOf onRefusal answerUnder report bytesUnder indexTable refusedTable checkedTable tableUnder
 computingCalls = tt
 
 unfoldable pub computing : Unit {0}

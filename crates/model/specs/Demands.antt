@@ -3,18 +3,19 @@
 use Prim.Native.Nat.{ℕ, suc, _+_, _-_, _<_, _≤_}
 use mathlib.Core.Path.{_≡_}
 use mathlib.Core.Bool.{true, false}
+use mathlib.Core.Option.{none, some}
 use mathlib.Core.Logic.{_⊎_}
 use mathlib.Core.List.{List, _∷_, _++_}
 use lib.ListN.{length, replicate}
 use Rattle.model.specs.Problem.{Problem, Cell, cellOf, valueOf, solved}
 use Rattle.model.specs.Format.{Bytes}
 use Rattle.model.specs.Read.{problemOf, cellsOf}
-use Rattle.model.specs.Limits.{ceiling}
-use Rattle.model.specs.QValue.{cut}
+use Rattle.model.specs.Limits.{ceiling, noPlan}
+use Rattle.model.specs.Cost.{Cost, amount, _⊑_}
 use Rattle.model.specs.Questions.{questions, answerAt, First, accepted, acceptedUnder}
 use Rattle.model.specs.Optimal.{optimal, gaps}
 use Rattle.model.specs.Policy.{Policy, Closed, policyCost, written}
-use Rattle.model.specs.Earlier.{strictRefusal}
+use Rattle.model.specs.Earlier.{strictRefusal, checkedRefusal, checkedAccepted, answerThen, bytesThen}
 use Rattle.model.specs.Report.{answerGiven, bytesGiven, answerUnder, bytesUnder, tableGiven, tableUnder}
 use Rattle.model.specs.Calls.{Call, left, raisesIn}
 
@@ -28,53 +29,86 @@ abbrev pub startCell : List ℕ → List ℕ → Cell
 startCell s s′ = cellOf (cellsOf s′) (problemOf s .start)
 
 -- the least cost of the start of the sheet s
-abbrev pub startCost : List ℕ → ℕ
+abbrev pub startCost : List ℕ → Cost
 startCost s = optimal (problemOf s) (problemOf s .start)
 
 -- the start's plan, which takes the chosen check written at each junction it reaches: it is complete, costs the start's value, and every
 -- complete plan from the start costs at least as much
 pub record Best (p : Problem) (cells : List Cell) : Type 0 where
   pub complete : Closed p (written cells) (p .start)
-  pub costs : policyCost p (written cells) (p .start) ≡ valueOf cells (p .start)
-  pub least : (π : Policy) → Closed p π (p .start) → policyCost p (written cells) (p .start) ≤ policyCost p π (p .start)
+  pub costs : policyCost p (written cells) (p .start) ≡ some (valueOf cells (p .start))
+  pub least : (π : Policy) → Closed p π (p .start) → policyCost p (written cells) (p .start) ⊑ policyCost p π (p .start)
+
+-- S8.14: what there may be of complete plans from the start: none at all; some, and all cost the ceiling or more; one that costs less
+abbrev pub NoPlan : Problem → Type 0
+NoPlan p = (π : Policy) → Closed p π (p .start) → ⊥
+
+pub record PlansAbove (p : Problem) : Type 0 where
+  pub plan : Policy
+  pub complete : Closed p plan (p .start)
+  pub every : (π : Policy) → Closed p π (p .start) → some ceiling ⊑ policyCost p π (p .start)
+
+pub record PlanBelow (p : Problem) : Type 0 where
+  pub plan : Policy
+  pub complete : Closed p plan (p .start)
+  pub cost : ℕ
+  pub costs : policyCost p plan (p .start) ≡ some cost
+  pub below : cost < ceiling
 
 -- Demand 1 (S5.1 to S5.3, S8.1), of a call c on the bytes s with a table of so many entries and a budget: it was refused by the first
--- question whose answer is no, and left the bytes unaltered; or every answer is yes, and it ended settled (100), over (101) or stopped
--- (102).
+-- question whose answer is no, and left the bytes unaltered; or every answer is yes, and it ended settled (100), over (101), stopped
+-- (102) or none (103).
 pub data Demand1 (s : List ℕ) (entries budget : ℕ) (c : Call) : Type 0 where
   refused : First (questions s entries budget) (c .number) → (c .price ≡ 0) × (c .passes ≡ 0) × (c .raises ≡ 0) →
       c .bytes ≡ s → Demand1 s entries budget c
   worked : ((i : ℕ) → answerAt (questions s entries budget) i ≡ true) →
-      (c .number ≡ 100) ⊎ ((c .number ≡ 101) ⊎ (c .number ≡ 102)) → Demand1 s entries budget c
+      (c .number ≡ 100) ⊎ ((c .number ≡ 101) ⊎ ((c .number ≡ 102) ⊎ (c .number ≡ 103))) → Demand1 s entries budget c
 
 -- S8.2, a settled call: the price is the least cost of the start, below the ceiling; the start is marked, and its plan is best
 pub record SettledAt (s : List ℕ) (c : Call) : Type 0 where
-  pub price : c .price ≡ startCost s
+  pub price : startCost s ≡ some (c .price)
   pub below : c .price < ceiling
   pub marked : solved (startCell s (c .bytes)) ≡ true
   pub best : Best (problemOf s) (cellsOf (c .bytes))
 
--- S8.3, a call that is over: the price is the ceiling, the least cost is that or more, and the start is marked
+-- S8.3, a call that is over: the price is the ceiling, there is a complete plan and every one costs that or more, so does the least cost,
+-- and the start is marked
 pub record OverAt (s : List ℕ) (c : Call) : Type 0 where
   pub price : c .price ≡ ceiling
-  pub above : ceiling ≤ startCost s
+  pub plans : PlansAbove (problemOf s)
+  pub cost : ℕ
+  pub least : startCost s ≡ some cost
+  pub above : ceiling ≤ cost
   pub marked : solved (startCell s (c .bytes)) ≡ true
 
--- S8.4, a stopped call: it made exactly as many raises as its budget, the start is open, and the price is a lower bound of the least cost
+-- S8.14, a call that ends none: the price is 1,000,000,001, there is no complete plan, the least cost is none, and the start is marked
+pub record NoneAt (s : List ℕ) (c : Call) : Type 0 where
+  pub price : c .price ≡ noPlan
+  pub no-plan : NoPlan (problemOf s)
+  pub least : startCost s ≡ none
+  pub marked : solved (startCell s (c .bytes)) ≡ true
+
+-- S8.4, a stopped call: it made exactly as many raises as its budget, the start is open, and the price is a lower bound of the least cost,
+-- as that is written
 pub record StoppedAt (s : List ℕ) (c : Call) : Type 0 where
   pub spent : c .raises ≡ c .budget
   pub still-open : solved (startCell s (c .bytes)) ≡ false
-  pub bound : c .price ≤ startCost s
+  pub bound : c .price ≤ amount (startCost s)
 
 -- Demand 2 (S7, S8.2 to S8.4), of a call c on the bytes s with a table of so many entries and a budget
 pub record Demand2 (s : List ℕ) (entries budget : ℕ) (c : Call) : Type 0 where
   -- it was refused, with a number below those of the outcomes, exactly where some question is answered no
   pub refused-for : c .number < 100 → (i : ℕ) × (answerAt (questions s entries budget) i ≡ false)
   pub refused-where : (i : ℕ) → answerAt (questions s entries budget) i ≡ false → c .number < 100
-  -- what each outcome says (S8.2, S8.3, S8.4)
+  -- what each outcome says (S8.2, S8.3, S8.4, S8.14)
   pub settled : c .number ≡ 100 → SettledAt s c
   pub over : c .number ≡ 101 → OverAt s c
   pub stopped : c .number ≡ 102 → StoppedAt s c
+  pub none : c .number ≡ 103 → NoneAt s c
+  -- S8.14: and where finished work ends so, by what there is of complete plans
+  pub settled-where : 100 ≤ c .number → solved (startCell s (c .bytes)) ≡ true → PlanBelow (problemOf s) → c .number ≡ 100
+  pub over-where : 100 ≤ c .number → solved (startCell s (c .bytes)) ≡ true → PlansAbove (problemOf s) → c .number ≡ 101
+  pub none-where : 100 ≤ c .number → solved (startCell s (c .bytes)) ≡ true → NoPlan (problemOf s) → c .number ≡ 103
   -- S7.2: the price of a call that was not refused is the value that it left at the start
   pub price-is-value : 100 ≤ c .number → c .price ≡ startCell s (c .bytes) .value
   -- S7.5, S7.3: the budget in the answer is the one that was given, raises do not go beyond it, and passes are at most raises plus 1
@@ -90,8 +124,8 @@ pub record Demand3 (s : List ℕ) (calls : List Call) : Type 0 where
   pub still-accepted : Accepted (left s calls)
   -- S8.6: each value is at least its first value
   pub not-below-first : (t : ℕ) → valueOf (cellsOf s) t ≤ valueOf (cellsOf (left s calls)) t
-  -- S8.7: and at most the least cost, cut to the ceiling
-  pub not-above-optimal : (t : ℕ) → valueOf (cellsOf (left s calls)) t ≤ cut (optimal (problemOf s) t)
+  -- S8.7: and at most the least cost as it is written, cut to the ceiling or 1,000,000,001 for none
+  pub not-above-optimal : (t : ℕ) → valueOf (cellsOf (left s calls)) t ≤ amount (optimal (problemOf s) t)
   -- S8.8: all raises reported, plus the gaps still left, are at most the gaps at the outset
   pub raises-within-gaps : raisesIn calls + gaps (problemOf s) (cellsOf (left s calls)) ≤ gaps (problemOf s) (cellsOf s)
   -- S8.9: every call that is not refused and leaves the start open has reported exactly its budget in raises
@@ -123,3 +157,14 @@ pub record Loosened (limit : ℕ) (s : List ℕ) : Type 0 where
       bytesUnder limit s entries budget ≡ bytesGiven (strictRefusal limit s entries budget) s budget
   pub same-table : (t : List ℕ) (budget : ℕ) →
       tableUnder limit s t budget ≡ tableGiven (strictRefusal limit s (length t) budget) s t
+
+-- S8.16, of a sheet s that was accepted, under a limit of stages, when every junction had to have a check: what it keeps. Each call, with
+-- any table and any budget, is as the questions and the procedure of that time would have it.
+pub record Withdrawn (limit : ℕ) (s : List ℕ) : Type 0 where
+  pub still-accepted : acceptedUnder limit s ≡ true
+  pub same-answer : (entries budget : ℕ) → answerUnder limit s entries budget ≡ answerThen limit s entries budget
+  pub same-bytes : (entries budget : ℕ) → bytesUnder limit s entries budget ≡ bytesThen limit s entries budget
+  pub same-table : (t : List ℕ) (budget : ℕ) →
+      tableUnder limit s t budget ≡ tableGiven (checkedRefusal limit s (length t) budget) s t
+  -- and what it leaves is again such a sheet
+  pub again : (entries budget : ℕ) → checkedAccepted limit (bytesUnder limit s entries budget) ≡ true

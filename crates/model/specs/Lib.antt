@@ -3,13 +3,14 @@ pub mod Limits
 pub mod Format
 pub mod Tests
 pub mod Read
+pub mod Cost
 pub mod QValue
 pub mod Questions
-pub mod Earlier
 pub mod Ldfs
 pub mod Optimal
 pub mod Policy
 pub mod Report
+pub mod Earlier
 pub mod Calls
 pub mod Demands
 pub mod Rows

@@ -1,5 +1,5 @@
 -- The limits of a sheet, one definition each. `src/lib.rt` has the same numbers for the code, and the proofs hold the two to each other.
-use Prim.Native.Nat.{ℕ, _^_}
+use Prim.Native.Nat.{ℕ, suc, _^_}
 
 -- S4.1, S4.3: the most stages that a sheet has, and the fewest entries of its index table
 abbrev pub maxStates : ℕ
@@ -7,7 +7,7 @@ maxStates = 4096
 
 -- S4.2: the fewest and the most bytes that a sheet has
 abbrev pub minBytes : ℕ
-minBytes = 20
+minBytes = 17
 
 abbrev pub maxBytes : ℕ
 maxBytes = 60000
@@ -27,6 +27,10 @@ maxCost = 1000000
 unfoldable pub ceiling : ℕ
 ceiling = 1000000000
 
--- S7.3, S8.8: raises are fewer than this: as many stages as there may be, times the ceiling, are fewer
+-- S2.11: the number that is written for none, 1,000,000,001: above every other value
+abbrev pub noPlan : ℕ
+noPlan = suc ceiling
+
+-- S7.3, S8.8: raises are fewer than this: as many stages as there may be, times 1,000,000,001, are fewer
 abbrev pub manyRaises : ℕ
 manyRaises = 2 ^ 42

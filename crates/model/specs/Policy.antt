@@ -3,8 +3,11 @@ use Prim.Native.Nat.{ℕ, _<_}
 use mathlib.Core.Path.{_≡_}
 use mathlib.Core.Option.{Option, none, some}
 use mathlib.Core.List.{List}
+use lib.Dec.{ltb}
 use lib.ListN.{length}
 use Rattle.model.specs.Problem.{Kind, Action, Node, terminal, decision, Problem, Cell, states, nodeAt, actionAt, cellOf, _∈_}
+use Rattle.model.specs.Tests.{fork}
+use Rattle.model.specs.Cost.{Cost}
 use Rattle.model.specs.QValue.{qFull}
 use Rattle.model.specs.Optimal.{solution}
 
@@ -24,14 +27,18 @@ Closed p π s =
     (t : ℕ) (acts : List Action) → Reach p π s t → nodeAt p t ≡ decision acts →
     (i : ℕ) × (π t ≡ some i) × (i < length acts)
 
--- S2.3, the cost of a plan: at an ending the ending's cost, at a junction the chosen check's cost plus the largest, or the sum, of the
--- plan's cost at its findings; 0 at a junction that is not covered
-unfoldable pub costAt : Kind → (ℕ → ℕ) → Node → Option ℕ → ℕ
-costAt k v (terminal cost) o = cost
-costAt k v (decision acts) none = 0
-costAt k v (decision acts) (some i) = qFull k v (actionAt acts i)
+-- S8.15: every junction has a check
+abbrev pub Checked : Problem → Type 0
+Checked p = (s : ℕ) (acts : List Action) → nodeAt p s ≡ decision acts → 0 < length acts
 
-unfoldable pub policyCost : Problem → Policy → ℕ → ℕ
+-- S2.3, the cost of a plan: at an ending the ending's cost, at a junction the chosen check's cost plus the largest, or the sum, of the
+-- plan's cost at its findings; none at a junction that is not covered by a check that it has, and so wherever the plan is not complete
+unfoldable pub costAt : Kind → (ℕ → Cost) → Node → Option ℕ → Cost
+costAt k v (terminal cost) o = some cost
+costAt k v (decision acts) none = none
+costAt k v (decision acts) (some i) = fork (ltb i (length acts)) (λ _. qFull k v (actionAt acts i)) (λ _. none)
+
+unfoldable pub policyCost : Problem → Policy → ℕ → Cost
 policyCost p π = solution (λ s v. costAt (p .kind) v (nodeAt p s) (π s)) (states p)
 
 -- S8.2: the plan that is written in the cells, the chosen check at each junction

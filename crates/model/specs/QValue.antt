@@ -1,33 +1,31 @@
--- The price of a check, for both kinds from one definition, its dearest finding, and the least price.
+-- The price of a check, for both kinds and by values, plans and least costs from one definition, its dearest finding, and the least price.
 use Prim.Native.Nat.{ℕ, _+_, _≤_, min, max}
 use mathlib.Core.Path.{_≡_}
+use mathlib.Core.Option.{none, some}
 use mathlib.Core.List.{List, [], _∷_}
 use lib.Dec.{ltb}
 use Rattle.model.specs.Tests.{fork}
-use Rattle.model.specs.Limits.{ceiling}
+use Rattle.model.specs.Limits.{noPlan}
 use Rattle.model.specs.Problem.{Kind, worst, whole, Action, _∈_}
-
--- S2.7: an amount above the ceiling counts as the ceiling
-abbrev pub cut : ℕ → ℕ
-cut x = min x ceiling
+use Rattle.model.specs.Cost.{Cost, amount, costOf, both, lesser}
 
 -- S2.3: the larger on a worst sheet, the sum on a whole one
 unfoldable pub join : Kind → ℕ → ℕ → ℕ
 join worst x y = max x y
 join whole x y = x + y
 
--- the largest, or the sum, of v over some stages
-unfoldable pub joined : Kind → (ℕ → ℕ) → List ℕ → ℕ
-joined k v [] = 0
-joined k v (t ∷ ts) = join k (v t) (joined k v ts)
+-- the largest, or the sum, of v over some stages; none where v is none at one of them
+unfoldable pub joined : Kind → (ℕ → Cost) → List ℕ → Cost
+joined k v [] = some 0
+joined k v (t ∷ ts) = both (join k) (v t) (joined k v ts)
 
--- a check's cost plus the largest, or the sum, of its findings' values by v, uncut: the literature's Q-value
-abbrev pub qFull : Kind → (ℕ → ℕ) → Action → ℕ
-qFull k v a = a .cost + joined k v (a .successors)
+-- a check's cost plus the largest, or the sum, of its findings' costs by v, uncut, or none: the literature's Q-value
+abbrev pub qFull : Kind → (ℕ → Cost) → Action → Cost
+qFull k v a = both _+_ (some (a .cost)) (joined k v (a .successors))
 
--- S2.8: the price of a check by the values v, cut to the ceiling
+-- S2.8: the price of a check by the values v: none where a finding's value is none, else cut to the ceiling
 abbrev pub q : Kind → (ℕ → ℕ) → Action → ℕ
-q k v a = cut (qFull k v a)
+q k v a = amount (qFull k (λ t. costOf (v t)) a)
 
 -- of two stages, t of value x and u of value y, the dearer; t where they are equal
 abbrev pub dearerOf : ℕ → ℕ → ℕ → ℕ → ℕ
@@ -50,12 +48,14 @@ pub record Dearest (v : ℕ → ℕ) (ts : List ℕ) (t : ℕ) : Type 0 where
   pub largest : (u : ℕ) → u ∈ ts → v u ≤ v t
   pub lowest : (u : ℕ) → u ∈ ts → v u ≡ v t → t ≤ u
 
--- the least of x and of f over some checks
-unfoldable pub leastFrom : ℕ → (Action → ℕ) → List Action → ℕ
-leastFrom x f [] = x
-leastFrom x f (a ∷ more) = leastFrom (min x (f a)) f more
+-- the least of x and of f over some checks, by what picks the lesser of two
+unfoldable pub leastFrom : {A : Type 0} → (A → A → A) → A → (Action → A) → List Action → A
+leastFrom pick x f [] = x
+leastFrom pick x f (a ∷ more) = leastFrom pick (pick x (f a)) f more
 
--- the least of f over some checks; 0 for none, which question 4 rules out
-unfoldable pub least : (Action → ℕ) → List Action → ℕ
-least f [] = 0
-least f (a ∷ more) = leastFrom (f a) f more
+-- S2.5, S6.7: the least of some prices, and of some costs; none where there is no check
+abbrev pub least : (Action → ℕ) → List Action → ℕ
+least f acts = leastFrom min noPlan f acts
+
+abbrev pub leastCost : (Action → Cost) → List Action → Cost
+leastCost f acts = leastFrom lesser none f acts

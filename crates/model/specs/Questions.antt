@@ -8,7 +8,7 @@ use lib.Dec.{eqb, leb, ltb}
 use Rattle.model.specs.Tests.{fork, also, all, every}
 use Rattle.model.specs.Problem.{Kind, worst, whole, Action, Node, terminal, decision, Problem, Cell}
 use Rattle.model.specs.Problem.{states, nodeAt, actionAt, cellOf, valueOf, solved}
-use Rattle.model.specs.Limits.{maxStates, minBytes, maxBytes, maxCost, ceiling}
+use Rattle.model.specs.Limits.{maxStates, minBytes, maxBytes, maxCost, noPlan}
 use Rattle.model.specs.Format.{be16, headTag, headLength, kindIn, statesIn, startIn, headSize}
 use Rattle.model.specs.Read.{tag, contentLength, nodesGood, problemOf, cellsOf}
 use Rattle.model.specs.QValue.{q}
@@ -27,7 +27,7 @@ everyAction acts f = every (length acts) (λ i. f (actionAt acts i))
 unfoldable pub question1 : ℕ → ℕ → Bool
 question1 limit entries = leb limit entries
 
--- S4.2, size: has the sheet 20 to 60,000 bytes?
+-- S4.2, size: has the sheet 17 to 60,000 bytes?
 unfoldable pub question2 : List ℕ → Bool
 question2 s = all (leb minBytes (length s) ∷ leb (length s) maxBytes ∷ [])
 
@@ -43,18 +43,19 @@ question3 limit s =
 unfoldable pub question4 : List ℕ → Bool
 question4 s = nodesGood (be16 s statesIn) (drop headSize s)
 
--- S4.5, ranges: are check costs 1 to 1,000,000, ending costs 0 to 1,000,000, values 0 to the ceiling, marks 0 or 1, chosen checks 0 at
--- open junctions and below the junction's number of checks at settled ones?
+-- S4.5, ranges: are check costs 1 to 1,000,000, ending costs 0 to 1,000,000, values 0 to 1,000,000,001, marks 0 or 1, chosen checks 0
+-- at open junctions and at those without checks, and below the junction's number of checks at settled ones that have some?
 unfoldable pub costsInRange : Node → Bool
 costsInRange (terminal cost) = leb cost maxCost
 costsInRange (decision acts) = everyAction acts (λ a. all (leb 1 (a .cost) ∷ leb (a .cost) maxCost ∷ []))
 
 unfoldable pub chosenInRange : Node → Cell → Bool
 chosenInRange (terminal cost) c = true
-chosenInRange (decision acts) c = fork (solved c) (λ _. ltb (c .chosen) (length acts)) (λ _. eqb (c .chosen) 0)
+chosenInRange (decision []) c = eqb (c .chosen) 0
+chosenInRange (decision (a ∷ more)) c = fork (solved c) (λ _. ltb (c .chosen) (length (a ∷ more))) (λ _. eqb (c .chosen) 0)
 
 unfoldable pub cellInRange : Node → Cell → Bool
-cellInRange n c = all (leb (c .value) ceiling ∷ leb (c .mark) 1 ∷ chosenInRange n c ∷ [])
+cellInRange n c = all (leb (c .value) noPlan ∷ leb (c .mark) 1 ∷ chosenInRange n c ∷ [])
 
 unfoldable pub question5 : Problem → List Cell → Bool
 question5 p cells = everyState p (λ s n. all (costsInRange n ∷ cellInRange n (cellOf cells s) ∷ []))
@@ -90,8 +91,8 @@ valueUnder p cells s (decision acts) = everyAction acts (λ a. leb (valueOf cell
 unfoldable pub question7 : Problem → List Cell → Bool
 question7 p cells = everyState p (valueUnder p cells)
 
--- S4.8, marks: has each settled ending a value equal to its cost, and each settled junction a value equal to the price of its chosen
--- check, with all that check's findings settled?
+-- S4.8, marks: has each settled ending a value equal to its cost, each settled junction without checks the value 1,000,000,001, and each
+-- other settled junction a value equal to the price of its chosen check, with all that check's findings settled?
 unfoldable pub allSolved : List Cell → List ℕ → Bool
 allSolved cells [] = true
 allSolved cells (t ∷ ts) = also (solved (cellOf cells t)) (λ _. allSolved cells ts)
@@ -101,7 +102,8 @@ passedBy p cells s a = all (eqb (valueOf cells s) (q (p .kind) (valueOf cells) a
 
 unfoldable pub markEarned : Problem → List Cell → ℕ → Node → Bool
 markEarned p cells s (terminal cost) = eqb (valueOf cells s) cost
-markEarned p cells s (decision acts) = passedBy p cells s (actionAt acts (cellOf cells s .chosen))
+markEarned p cells s (decision []) = eqb (valueOf cells s) noPlan
+markEarned p cells s (decision (a ∷ more)) = passedBy p cells s (actionAt (a ∷ more) (cellOf cells s .chosen))
 
 unfoldable pub question8 : Problem → List Cell → Bool
 question8 p cells = everyState p (λ s n. fork (solved (cellOf cells s)) (λ _. markEarned p cells s n) (λ _. true))

@@ -63,13 +63,9 @@ pastActions most r = drop (actionsLong most r) r
 unfoldable pub terminalFits : List ℕ → Bool
 terminalFits r = all (eqb (contentLength r) terminalLength ∷ leb terminalSize (length r) ∷ [])
 
--- a junction's own field, with a check behind it
+-- a junction's own field
 unfoldable pub headerFits : List ℕ → Bool
-headerFits r =
-    all (
-    eqb (tag r) decisionTag ∷ eqb (contentLength r) decisionLength ∷ leb decisionSize (length r)
-    ∷ eqb (tag (drop decisionSize r)) actionTag ∷ []
-    )
+headerFits r = all (eqb (tag r) decisionTag ∷ eqb (contentLength r) decisionLength ∷ leb decisionSize (length r) ∷ [])
 
 unfoldable pub decisionFits : List ℕ → Bool
 decisionFits r = also (headerFits r) (λ _. actionsGood maxActions (drop decisionSize r))

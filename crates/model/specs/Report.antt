@@ -4,7 +4,7 @@ use mathlib.Core.List.{List, [], _∷_, _++_}
 use lib.Dec.{ltb}
 use lib.ListN.{length, replicate}
 use Rattle.model.specs.declared.Outcome.{Outcome}
-use Rattle.model.specs.declared.Outcome.the-variants.{Refused, Settled, Over, Stopped}
+use Rattle.model.specs.declared.Outcome.the-variants.{Refused, Settled, Over, Stopped, None}
 use Rattle.model.specs.declared.Answer.{Answer}
 use Rattle.model.specs.Tests.{fork}
 use Rattle.model.specs.Problem.{Problem, Cell, cellOf, solved}
@@ -14,20 +14,25 @@ use Rattle.model.specs.Read.{problemOf, cellsOf}
 use Rattle.model.specs.Questions.{sheetRefusal, refusalUnder}
 use Rattle.model.specs.Ldfs.{Passes, searchOf, work}
 
--- S7.1: the number of each outcome: a refusal's own, and 100, 101, 102
+-- S7.1: the number of each outcome: a refusal's own, and 100 to 103
 abbrev pub number : Outcome → ℕ
 number (Refused n) = n
 number Settled = 100
 number Over = 101
 number Stopped = 102
+number None = 103
 
 -- an answer in numbers: outcome, price, passes, raises
 abbrev pub numbers : Answer → List ℕ
 numbers a = number (a .outcome) ∷ a .price ∷ a .passes ∷ a .raises ∷ []
 
--- S7.1, settled: start marked, value below the ceiling; over: start marked, value at the ceiling; else stopped
+-- S7.1, of a marked start: settled below the ceiling, none above it, over at it
+unfoldable pub outcomeAt : ℕ → Outcome
+outcomeAt value = fork (ltb value ceiling) (λ _. Settled) (λ _. fork (ltb ceiling value) (λ _. None) (λ _. Over))
+
+-- and of an open one: stopped
 unfoldable pub outcomeOf : Cell → Outcome
-outcomeOf c = fork (solved c) (λ _. fork (ltb (c .value) ceiling) (λ _. Settled) (λ _. Over)) (λ _. Stopped)
+outcomeOf c = fork (solved c) (λ _. outcomeAt (c .value)) (λ _. Stopped)
 
 -- the cells that work leaves, and the raises that it made
 abbrev pub cellsAfter : Passes → List Cell

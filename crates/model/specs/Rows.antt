@@ -3,9 +3,9 @@ use Prim.Native.Nat.{ℕ, zero, suc, _+_, _*_, _^_, min}
 use mathlib.Core.Path.{_≡_}
 use mathlib.Core.List.{List, [], _∷_, _++_}
 use lib.ListN.{length, getD, set, take, replicate}
-use Rattle.model.specs.Problem.{worst, whole, action, Node, terminal, decision, problem, Cell, cell}
+use Rattle.model.specs.Problem.{Kind, worst, whole, Action, action, Node, terminal, decision, problem, Cell, cell}
 use Rattle.model.specs.Format.{bytes2, successorsBytes, write}
-use Rattle.model.specs.Limits.{maxStates}
+use Rattle.model.specs.Limits.{maxStates, ceiling, noPlan}
 use Rattle.model.specs.Questions.{refusal}
 use Rattle.model.specs.Report.{largest, report, bytesAfter}
 
@@ -136,6 +136,35 @@ atCeiling m =
     write (problem whole 0 (decision (action 1 (upFrom 1 m) ∷ []) ∷ doubling 1 (9 + m)))
     (cell 1000000000 1 0 ∷ doubled (9 + m))
 
+-- Sheet F with its junction's value, mark and chosen check.
+abbrev pub sheetF : ℕ → ℕ → ℕ → List ℕ
+sheetF value mark chosen = write (problem worst 0 (decision [] ∷ [])) (cell value mark chosen ∷ [])
+
+-- Sheet G of a kind.
+abbrev pub sheetG : Kind → List ℕ
+sheetG k =
+    write
+    (problem k 0 (decision (action 10 (1 ∷ []) ∷ action 100 (2 ∷ []) ∷ []) ∷ decision [] ∷ terminal 30 ∷ []))
+    (cell 0 0 0 ∷ cell 0 0 0 ∷ cell 0 0 0 ∷ [])
+
+-- Sheet H.
+abbrev pub sheetH : List ℕ
+sheetH =
+    write
+    (problem worst 0 (decision (action 10 (1 ∷ []) ∷ action 100 (1 ∷ []) ∷ []) ∷ decision [] ∷ []))
+    (cell 0 0 0 ∷ cell 0 0 0 ∷ [])
+
+-- Sheet I with these checks at junction 0.
+abbrev sheetI : List Action → List ℕ
+sheetI acts =
+    write
+    (problem whole 0 (decision acts ∷ doubling 1 11 ++ (decision [] ∷ [])))
+    (cell ceiling 0 0 ∷ doubled 11 ++ (cell ceiling 0 0 ∷ []))
+
+-- one ending of cost 70, with its value
+abbrev endingAt : ℕ → List ℕ
+endingAt value = write (problem worst 0 (terminal 70 ∷ [])) (cell value 0 0 ∷ [])
+
 -- a row with a table of so many entries; with one of as many as are needed
 abbrev rowWith : ℕ → List ℕ → ℕ → Expected → Row
 rowWith entries s budget e = record { sheet = s; entries = entries; budget = budget; expected = e }
@@ -143,7 +172,7 @@ rowWith entries s budget e = record { sheet = s; entries = entries; budget = bud
 abbrev row : List ℕ → ℕ → Expected → Row
 row = rowWith maxStates
 
--- settled, over, stopped, refused: price, passes, raises
+-- settled, over, stopped, none, refused: price, passes, raises
 abbrev settled : ℕ → ℕ → ℕ → Expected
 settled price passes raises = answers (100 ∷ price ∷ passes ∷ raises ∷ [])
 
@@ -152,6 +181,9 @@ over price passes raises = answers (101 ∷ price ∷ passes ∷ raises ∷ [])
 
 abbrev stopped : ℕ → ℕ → ℕ → Expected
 stopped price passes raises = answers (102 ∷ price ∷ passes ∷ raises ∷ [])
+
+abbrev noneLeft : ℕ → ℕ → Expected
+noneLeft passes raises = answers (103 ∷ noPlan ∷ passes ∷ raises ∷ [])
 
 abbrev refusedBy : ℕ → Expected
 refusedBy n = answers (n ∷ 0 ∷ 0 ∷ 0 ∷ [])
@@ -207,8 +239,30 @@ rows =
     ∷ row (sheetE (1 ∷ 2 ∷ 1 ∷ [])) largest (refusedBy 6)
     ∷ row (sheetE (0 ∷ 0 ∷ [])) largest (refusedBy 6)
     ∷ row (sheetE (3 ∷ 3 ∷ [])) largest (refusedBy 6)
+    -- S11.31 to S11.36
+    ∷ row (sheetF 0 0 0) largest (noneLeft 1 1)
+    ∷ row (sheetF 0 0 0) 1 (noneLeft 1 1)
+    ∷ row (carriedOn (sheetF 0 0 0) 1) largest (noneLeft 1 0)
+    ∷ row (sheetF noPlan 0 0) largest (noneLeft 1 0)
+    ∷ row (sheetF 1000000002 0 0) largest (refusedBy 5)
+    ∷ row (sheetF noPlan 1 0) largest accepts
+    ∷ row (sheetF ceiling 1 0) largest (refusedBy 8)
+    ∷ row (sheetF 0 1 0) largest (refusedBy 8)
+    ∷ row (sheetF 0 0 1) largest (refusedBy 5)
+    ∷ row (sheetF noPlan 1 1) largest (refusedBy 5)
+    ∷ row (endingAt noPlan) largest (refusedBy 7)
+    ∷ row (endingAt 1000000002) largest (refusedBy 5)
+    ∷ row (take 16 (sheetF 0 0 0)) largest (refusedBy 2)
+    ∷ row (take 19 (oneEnding 0)) largest (refusedBy 4)
+    -- S11.37 to S11.40
+    ∷ row (sheetG worst) largest (settled 130 4 5)
+    ∷ row (sheetG whole) largest (settled 130 4 5)
+    ∷ row sheetH largest (noneLeft 3 3)
+    ∷ row sheetH 2 (stopped 10 2 2)
+    ∷ row (carriedOn sheetH 2) largest (noneLeft 2 1)
+    ∷ row (sheetI (action 1 (13 ∷ []) ∷ action 1 (1 ∷ 2 ∷ []) ∷ [])) largest (over 1000000000 1 1)
+    ∷ row (sheetI (action 1 (1 ∷ 2 ∷ 13 ∷ []) ∷ [])) largest (noneLeft 2 2)
     -- beside those of S11
-    ∷ row (take 19 (oneEnding 0)) largest (refusedBy 2)
     ∷ row (set sheetA 23 0) largest (refusedBy 5)
     ∷ row abandoned largest (settled 150 1 1)
     ∷ row (carriedOn abandoned largest) largest (settled 150 1 0)

@@ -6,7 +6,7 @@ pub mod format; // format.rt: tags, lengths, offsets and sizes of fields
 pub const MAX_STATES: usize = 4096;
 
 // The fewest and the most bytes of a sheet (S4.2).
-pub const MIN_BYTES: usize = 20;
+pub const MIN_BYTES: usize = 17;
 
 pub const MAX_BYTES: usize = 60000;
 
@@ -18,10 +18,13 @@ pub const MAX_SUCCESSORS: usize = 16;
 // The largest cost of a check or an ending (S4.5).
 pub const MAX_COST: u32 = 1000000;
 
-// The largest value (S2.7), and the same as a number of 64 bits, which sums are compared with.
+// The ceiling (S2.7), and the same as a number of 64 bits, which sums are compared with.
 pub const CEILING: u32 = 1000000000;
 
 pub const LONG_CEILING: u64 = CEILING as u64;
+
+// The largest value, which is written for none: there is no complete plan (S2.11).
+pub const NO_PLAN: u32 = CEILING + 1;
 
 // The numbers of the questions, by their names (S4).
 pub const ROOM: u32 = 1;
@@ -48,6 +51,7 @@ pub enum Outcome {
     Settled,
     Over,
     Stopped,
+    None,
 }
 
 // What a call reports: its outcome; the start's value, the passes begun and the raises made, 0 for all three when refused; and the

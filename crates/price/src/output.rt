@@ -28,5 +28,6 @@ pub fn explain(o: Outcome) {
         Outcome::Settled => {}
         Outcome::Over => {}
         Outcome::Stopped => {}
+        Outcome::None => {}
     }
 }

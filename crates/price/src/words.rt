@@ -10,11 +10,11 @@ pub fn usage(fd: i32) -> bool {
 Prices the fault sheet in FILE, or the one on standard input: the least cost for which the fault
 can be cleared however the findings fall, and the plan that costs it.
 
-Line one is the outcome (settled or over), the price in cents, passes and raises. Where it is
-settled, a line follows for each stage that the plan reaches: its number, its check or `end`, its
-value, and for a check `by` and the stage that the dearest of its findings leads to. A sheet that
-is refused gets `refused` and the number of the question that it fails, which is explained on
-standard error.
+Line one is the outcome (settled, over or none), the price in cents, passes and raises. Where it
+is settled, a line follows for each stage that the plan reaches: its number, its check or `end`,
+its value, and for a check `by` and the stage that the dearest of its findings leads to. `none`
+says that no plan clears the fault however the findings fall. A sheet that is refused gets `refused`
+and the number of the question that it fails, which is explained on standard error.
 
 docs/SPEC.md, S10, has it all.
 ",
@@ -29,7 +29,7 @@ pub fn words(fd: i32, n: u32) -> bool {
             fd,
             b" (S4.1): the index table has no room for 4,096 entries\n",
         ),
-        2 => io::write_all(fd, b" (S4.2): the sheet's size is not 20 to 60,000 bytes\n"),
+        2 => io::write_all(fd, b" (S4.2): the sheet's size is not 17 to 60,000 bytes\n"),
         3 => io::write_all(
             fd,
             b" (S4.3): there is no head, or its kind, number of stages or start is out of range\n",

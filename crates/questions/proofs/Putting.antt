@@ -2,7 +2,7 @@
 use Prim.Native.Nat.{ℕ, _<_}
 use mathlib.Core.Path.{_≡_, subst}
 use mathlib.Core.Bool.{true}
-use mathlib.Core.List.{List}
+use mathlib.Core.List.{List, [], _∷_}
 use native.Mathlib.Omega.{arith}
 use borrow.Author.Tests.{ltb-true}
 use lib.ListN.{length}
@@ -33,4 +33,5 @@ module _ (p : Problem) (cells : List Cell) (question : Question) (before : Befor
       go : (n : Node) → chosenInRange n (cellOf cells s) ≡ true → 0 < length (actionsOf n) →
           cellOf cells s .chosen < length (actionsOf n)
       go (terminal cost) h some = absurd (omega arith)
-      go (decision acts) h some = ltb-true _ _ (rw sol at h)
+      go (decision []) h some = absurd (omega arith)
+      go (decision (a ∷ more)) h some = ltb-true _ _ (rw sol at h)

@@ -49,16 +49,9 @@ module _ (s : List ℕ) (o n : ℕ) (le : o ≤ length s) (is : n ≡ be16 s (o 
   unfolding terminalFits all
   terminal-no e = rw (here, ne-eqb n 9 e)
 
-  pub header-yes : getD s o 0 ≡ 3 → n ≡ 6 → o + 9 ≤ length s → (b : ℕ) → b ≡ getD s (o + 9) 0 →
-      eqb b 4 ≡ headerFits (drop o s)
+  pub header-yes : getD s o 0 ≡ 3 → n ≡ 6 → leb (o + 9) (length s) ≡ headerFits (drop o s)
   unfolding headerFits all
-  header-yes t e l b be =
-      let room = le-leb 9 (length s - o) (omega arith) in
-      rw (← getD-from s o, t, here, e, length-drop o s, room, drop-drop 9 o s, ← getD-from s (o + 9), ← be) (sym (all-one _))
-
-  pub header-short : getD s o 0 ≡ 3 → n ≡ 6 → length s < o + 9 → false ≡ headerFits (drop o s)
-  unfolding headerFits all
-  header-short t e l = rw (← getD-from s o, t, here, e, length-drop o s, lt-leb 9 (length s - o) (omega arith))
+  header-yes t e = rw (← getD-from s o, t, here, e, length-drop o s) (leb-left o 9 (length s) le ∙ sym (all-one _))
 
   pub header-length : getD s o 0 ≡ 3 → (n ≡ 6 → ⊥) → false ≡ headerFits (drop o s)
   unfolding headerFits all

@@ -1,6 +1,6 @@
 -- A test of every state, of every action of a decision or of every successor of an action, one at a time.
-use Prim.Native.Nat.{ℕ, _+_, _*_, _<_, _≤_}
-use mathlib.Core.Path.{_≡_, refl, sym, _∙_}
+use Prim.Native.Nat.{ℕ, suc, _+_, _*_, _<_, _≤_}
+use mathlib.Core.Path.{_≡_, refl, sym, ap, _∙_}
 use mathlib.Core.Bool.{Bool, true, false}
 use mathlib.Core.List.{List, [], _∷_}
 use native.Mathlib.Omega.{arith}
@@ -11,15 +11,15 @@ use lib.ListN.{length, getD, drop, drop-of-length-le}
 use lib.Seq.{drop-cons}
 use Rattle.model.proofs.TestLaws.{true-also, every-true, every-false}
 use Rattle.model.specs.Tests.{also, all, every}
-use Rattle.model.specs.Problem.{Kind, worst, whole, decision, Problem, Cell, states, nodeAt, actionAt, cellOf, valueOf, solved}
+use Rattle.model.specs.Problem.{Kind, worst, whole, Action, decision, Problem, Cell, states, nodeAt, actionAt, cellOf, valueOf, solved}
 use Rattle.model.specs.Format.{terminalTag, decisionTag, actionTag, tagOf, actionsOf, actionOffset}
 use Rattle.model.specs.Read.{actionFits, actionRead, problemOf, cellsOf}
 use Rattle.model.specs.QValue.{q}
-use Rattle.model.specs.Limits.{maxCost, maxActions}
+use Rattle.model.specs.Limits.{maxCost, maxActions, noPlan}
 use Rattle.model.specs.Questions.{costsInRange, apart, ascending, successorsInOrder, question6, valueUnder, allSolved, passedBy}
 use Rattle.model.specs.Questions.{markEarned}
 use Rattle.layout.proofs.Shapes.{member, ascending-in}
-use Rattle.sheet.specs.Sheet.{Sheet, Within, Terminal, Decision, Priced, costOf, ofKind}
+use Rattle.sheet.specs.Sheet.{Sheet, Within, Terminal, Decision, Priced, terminalCost, ofKind}
 use Rattle.sheet.proofs.Joining.{of-worst, of-whole}
 use Rattle.sheet.proofs.Laws.{actionsAt, not-terminal, is-terminal, is-decision, few-actions, action-stands, action-ends}
 use Rattle.sheet.proofs.Laws.{action-is, action-in-place, action-priced, action-after}
@@ -65,10 +65,25 @@ module _ (p : Problem) (s : ℕ) (tag : tagOf (nodeAt p s) ≡ decisionTag) wher
   unfolding valueUnder actionsOf
   under-is cells = rw node
 
-  pub earned-is : (cells : List Cell) →
-      markEarned p cells s (nodeAt p s) ≡ passedBy p cells s (actionAt (actionsAt p s) (cellOf cells s .chosen))
-  unfolding markEarned actionsOf
-  earned-is cells = rw node
+  -- question 8, where there is an action and where there is none
+  module _ (cells : List Cell) where
+    pub earned-is : 0 < length (actionsAt p s) →
+        markEarned p cells s (nodeAt p s) ≡ passedBy p cells s (actionAt (actionsAt p s) (cellOf cells s .chosen))
+    unfolding markEarned
+    earned-is some = ap (markEarned p cells s) node ∙ go (actionsAt p s) some
+      where
+        go : (acts : List Action) → 0 < length acts →
+            markEarned p cells s (decision acts) ≡ passedBy p cells s (actionAt acts (cellOf cells s .chosen))
+        go [] some = absurd (omega arith)
+        go (a ∷ more) some = refl
+
+    pub earned-none : length (actionsAt p s) ≤ 0 → markEarned p cells s (nodeAt p s) ≡ eqb (valueOf cells s) noPlan
+    unfolding markEarned
+    earned-none none = ap (markEarned p cells s) node ∙ go (actionsAt p s) none
+      where
+        go : (acts : List Action) → length acts ≤ 0 → markEarned p cells s (decision acts) ≡ eqb (valueOf cells s) noPlan
+        go [] none = refl
+        go (a ∷ more) none = absurd (omega arith)
 
 -- a test of which nothing more is asked
 also-yes : (b : Bool) → also (all (true ∷ b ∷ [])) (λ _. true) ≡ b
@@ -152,12 +167,9 @@ module _ {s t : List ℕ} {i : ℕ} (d : Decision s t i) where
   h : Sheet s t (problemOf s) (cellsOf s)
   h = d .within .sheet
 
-  -- it has 1 to 16 actions
+  -- it has at most 16 actions
   pub few : length (actionsAt (problemOf s) i) ≤ maxActions
-  few = few-actions h i (d .within .below) (d .tag) .1
-
-  pub some : 0 < length (actionsAt (problemOf s) i)
-  some = few-actions h i (d .within .below) (d .tag) .0
+  few = few-actions h i (d .within .below) (d .tag)
 
   pub along-begins : (o : ℕ) → o ≡ actionOffset (problemOf s) i 0 → Along s i 0 o
   along-begins o e = record { upto = omega arith; at = e }
@@ -192,7 +204,7 @@ module _ {s t : List ℕ} {i : ℕ} (d : Decision s t i) where
   counted-all k g le ge = rw (sym (all-stepped _ _ _ (costs-are (problemOf s) i (d .tag)) k g le ge)) (omega arith)
 
   pub counted-none : (k : ℕ) → k < length (actionsAt (problemOf s) i) → costOfFits (problemOf s) i k ≡ false →
-      0 ≡ countInRange (nodeAt (problemOf s) i)
+      suc maxActions ≡ countInRange (nodeAt (problemOf s) i)
   unfolding countInRange
   counted-none k lt g = rw (sym (stepped-out _ _ _ (costs-are (problemOf s) i (d .tag)) k lt g))
 
@@ -206,8 +218,8 @@ module _ {s t : List ℕ} {i : ℕ} (w : Within s t i) (b : Bool) (e : b ≡ eqb
 
 -- question 7 at a terminal, and of one action
 pub under-terminal : {s t : List ℕ} {i : ℕ} → Terminal s t i →
-    leb (valueOf (cellsOf s) i) (costOf (nodeAt (problemOf s) i)) ≡ valueUnder (problemOf s) (cellsOf s) i (nodeAt (problemOf s) i)
-unfolding valueUnder costOf
+    leb (valueOf (cellsOf s) i) (terminalCost (nodeAt (problemOf s) i)) ≡ valueUnder (problemOf s) (cellsOf s) i (nodeAt (problemOf s) i)
+unfolding valueUnder terminalCost
 under-terminal {s} {t} {i} d = rw (is-terminal (nodeAt (problemOf s) i) (d .tag))
 
 module _ {s t : List ℕ} {i k o : ℕ} (d : Decision s t i) (a : Along s i k o) (lk : k < length (actionsAt (problemOf s) i))

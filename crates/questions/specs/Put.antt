@@ -1,5 +1,5 @@
 -- Questions 5 to 8 of one state, and what each may suppose of the questions before it.
-use Prim.Native.Nat.{ℕ, _<_}
+use Prim.Native.Nat.{ℕ, suc, _<_}
 use mathlib.Core.Path.{_≡_}
 use mathlib.Core.Bool.{Bool, true}
 use mathlib.Core.List.{List, [], _∷_}
@@ -7,6 +7,7 @@ use lib.ListN.{length}
 use Rattle.model.specs.Tests.{fork, all}
 use Rattle.model.specs.Problem.{Node, Problem, Cell, states, nodeAt, cellOf, solved}
 use Rattle.model.specs.Format.{actionsOf}
+use Rattle.model.specs.Limits.{maxActions}
 use Rattle.model.specs.Read.{fieldSize, actionFits}
 use Rattle.model.specs.Questions.{costsInRange, cellInRange, apart, successorsInOrder, valueUnder, markEarned}
 use Rattle.model.specs.Questions.{question5, question6, stateQuestions, firstNo}
@@ -17,11 +18,11 @@ use Rattle.questions.specs.declared.states.Question.the-variants.{Ranges
 unfoldable pub rangesAt : Node → Cell → Bool
 rangesAt n c = all (costsInRange n ∷ cellInRange n c ∷ [])
 
--- the number of a decision's actions, 0 where the cost of one is out of range
+-- the number of a decision's actions, one more than it may have where the cost of one is out of range
 unfoldable pub countInRange : Node → ℕ
-countInRange n = fork (costsInRange n) (λ _. length (actionsOf n)) (λ _. 0)
+countInRange n = fork (costsInRange n) (λ _. length (actionsOf n)) (λ _. suc maxActions)
 
--- a decision's chosen action is one of its actions
+-- the chosen action of a decision that has some is one of them
 abbrev pub ChosenExists : Problem → List Cell → ℕ → Type 0
 ChosenExists p cells s = 0 < length (actionsOf (nodeAt p s)) → cellOf cells s .chosen < length (actionsOf (nodeAt p s))
 

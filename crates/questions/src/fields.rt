@@ -38,18 +38,14 @@ fn terminal_fits(s: &[u8], at: usize) -> bool
     }
 }
 
-// Is a decision's own field there, with an action behind it?
+// Is a decision's own field there?
 fn header_fits(s: &[u8], at: usize) -> bool
     requires { ⌜ (at ≤ length (now s)) × (length (now s) ≤ maxBytes) ⌝ }
     ensures { λ r. ⌜ r ≡ headerFits (drop at (now (s .entry))) ⌝ }
 {
     if byte_at(s, at) == format::DECISION_TAG {
         if content_at(s, at) == format::DECISION_LENGTH {
-            if at + format::DECISION_SIZE <= s.len() {
-                byte_at(s, at + format::DECISION_SIZE) == format::ACTION_TAG
-            } else {
-                false
-            }
+            at + format::DECISION_SIZE <= s.len()
         } else {
             false
         }

@@ -6,13 +6,13 @@ ghost use lib.ListN.{length, drop};
 ghost use Rattle.model.specs.Tests.{every};
 ghost use Rattle.model.specs.Problem.{nodeAt, cellOf, states};
 ghost use Rattle.model.specs.Format.{actionsOf, actionOffset};
-ghost use Rattle.model.specs.Limits.{maxActions};
 ghost use Rattle.model.specs.Read.{problemOf, cellsOf, actionFits, actionRead};
 ghost use Rattle.model.specs.Questions.{apart, ascending, successorsInOrder, valueUnder, allSolved, markEarned, question6};
 ghost use Rattle.sheet.specs.Sheet.{Within, Decision, Priced};
 ghost use Rattle.questions.specs.Put.{rangesAt, countInRange, ChosenExists, Before, passesAt};
-use model::CEILING;
+use model::MAX_ACTIONS;
 use model::MAX_COST;
+use model::NO_PLAN;
 use model::format;
 use sheet::convert::byte_to_word;
 use sheet::convert::word_to_index;
@@ -20,6 +20,7 @@ use sheet::fields::action_cost;
 use sheet::fields::action_here;
 use sheet::fields::chosen_at;
 use sheet::fields::first_action;
+use sheet::fields::has_action;
 use sheet::fields::is_terminal;
 use sheet::fields::mark_at;
 use sheet::fields::next_action;
@@ -42,20 +43,23 @@ pub(crate) enum Question {
     Marks,
 }
 
-// The number of a decision's actions, 0 where the cost of one is out of range.
+// More actions than a decision has.
+const TOO_MANY: usize = MAX_ACTIONS + 1;
+
+// The number of a decision's actions, too many where the cost of one is out of range.
 fn count_in_range(sheet: &[u8], table: &[u32], state: usize) -> usize
     requires { ⌜ Decision (now sheet) (now table) state ⌝ }
-    ensures { λ r. ⌜ (r ≡ countInRange (nodeAt (problemOf (now (sheet .entry))) state)) × (r ≤ maxActions) ⌝ }
+    ensures { λ r. ⌜ r ≡ countInRange (nodeAt (problemOf (now (sheet .entry))) state) ⌝ }
 {
     let mut at: usize = first_action(sheet, table, state);
     let mut n: usize = 0;
     while action_here(sheet, at) {
         let cost = action_cost(sheet, at);
         if cost < 1 {
-            return 0;
+            return TOO_MANY;
         }
         if cost > MAX_COST {
-            return 0;
+            return TOO_MANY;
         }
         at = next_action(sheet, at);
         n += 1;
@@ -63,12 +67,12 @@ fn count_in_range(sheet: &[u8], table: &[u32], state: usize) -> usize
     n
 }
 
-// Question 5 of one state.
+// Question 5 of one state. At a decision no action chosen, 0, is in range wherever it stands; another only where it is solved.
 fn in_range(sheet: &[u8], table: &[u32], state: usize) -> bool
     requires { ⌜ Within (now sheet) (now table) state ⌝ }
     ensures { λ r. ⌜ r ≡ rangesAt (nodeAt (problemOf (now (sheet .entry))) state) (cellOf (cellsOf (now (sheet .entry))) state) ⌝ }
 {
-    if value_at(sheet, table, state) > CEILING {
+    if value_at(sheet, table, state) > NO_PLAN {
         return false;
     }
     let mark = mark_at(sheet, table, state);
@@ -79,14 +83,17 @@ fn in_range(sheet: &[u8], table: &[u32], state: usize) -> bool
         return terminal_cost(sheet, table, state) <= MAX_COST;
     }
     let n = count_in_range(sheet, table, state);
-    if n == 0 {
+    if n == TOO_MANY {
         return false;
     }
     let chosen = word_to_index(byte_to_word(chosen_at(sheet, table, state)));
+    if chosen == 0 {
+        return true;
+    }
     if mark == format::SOLVED {
         chosen < n
     } else {
-        chosen == 0
+        false
     }
 }
 
@@ -123,18 +130,14 @@ fn in_steps(sheet: &[u8], table: &[u32], state: usize, step: usize, n: usize) ->
         return true;
     }
     let mut at: usize = first_action(sheet, table, state);
-    loop {
+    while action_here(sheet, at) {
         if ascending_at(sheet, at, step, state + 1, n) {
             at = next_action(sheet, at);
         } else {
             return false;
         }
-        if action_here(sheet, at) {
-            continue;
-        } else {
-            return true;
-        }
     }
+    true
 }
 
 // Question 6 of one state: on a worst sheet successors ascend strictly, and on a whole one equal ones may stand side by side. The step is a
@@ -217,7 +220,7 @@ pub fn chosen_action(sheet: &[u8], table: &[u32], state: usize) -> usize
     action_at(sheet, table, state, chosen)
 }
 
-// Question 8 of one solved state.
+// Question 8 of one solved state: a terminal has its cost, a decision without actions none, another the price of its chosen action.
 fn mark_earned(sheet: &[u8], table: &[u32], state: usize) -> bool
     requires { ⌜ Within (now sheet) (now table) state ⌝ }
     requires { ⌜ question6 (problemOf (now sheet)) ≡ true ⌝ }
@@ -229,12 +232,16 @@ fn mark_earned(sheet: &[u8], table: &[u32], state: usize) -> bool
     if is_terminal(sheet, table, state) {
         return value == terminal_cost(sheet, table, state);
     }
-    let at = chosen_action(sheet, table, state);
-    let x = price(sheet, table, at);
-    if value == x.price {
-        all_solved(sheet, table, at)
+    if has_action(sheet, table, state) {
+        let at = chosen_action(sheet, table, state);
+        let x = price(sheet, table, at);
+        if value == x.price {
+            all_solved(sheet, table, at)
+        } else {
+            false
+        }
     } else {
-        false
+        value == NO_PLAN
     }
 }
 

@@ -112,7 +112,7 @@ fn all_of_a(size: usize) {
 // Acceptance and the refusals 2 to 9 with one table.
 fn each(size: usize) {
     all_of_a(size);
-    ask_b(b"B-19-bytes", 19, 0, 0, 0, size);
+    ask_b(b"B-16-bytes", 16, 0, 0, 0, size);
     ask_b(b"B-cut", 51, 0, 0, 0, size);
     ask_b(b"B-kind-2", 52, 3, 1, 2, size);
     ask_b(b"B-check-cost-0", 52, 20, 4, 0, size);

@@ -13,6 +13,7 @@ use super::lines::word;
 use super::lines::work_line;
 use super::sheets::ENDING;
 use super::sheets::FAN;
+use super::sheets::HALVES;
 use super::sheets::JUNCTION;
 use model::MAX_STATES;
 
@@ -97,6 +98,24 @@ fn chain(label: &[u8], cost: u32)
     let mut table = [0u32; MAX_STATES];
     let at = links(&mut sheet, cost);
     let n = ending(&mut sheet, at, cost, cost, 0);
+    work_line(label, &mut sheet, n, &mut table, LARGEST);
+}
+
+// A line of `solve` on sheet I, whole, with these checks at its junction 0: 8 + 9 + the checks + 308 + 12 + 9 bytes.
+pub fn beside(label: &[u8], checks: &[u8]) {
+    let mut sheet = [0u8; 400];
+    let mut table = [0u32; MAX_STATES];
+    let at = head(&mut sheet, 14);
+    put_number(&mut sheet, 3, 1, 1);
+    let at = put_number(&mut sheet, at, 3, 0x030006);
+    let at = put_number(&mut sheet, at, 4, 1000000000);
+    let at = put_number(&mut sheet, at, 2, 0);
+    let at = copy(&mut sheet, at, checks);
+    let at = copy(&mut sheet, at, &HALVES);
+    let at = ending(&mut sheet, at, 1000000, 1000000, 1);
+    let at = put_number(&mut sheet, at, 3, 0x030006);
+    let at = put_number(&mut sheet, at, 4, 1000000000);
+    let n = put_number(&mut sheet, at, 2, 0);
     work_line(label, &mut sheet, n, &mut table, LARGEST);
 }
 

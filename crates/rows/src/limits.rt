@@ -12,9 +12,9 @@ use super::lines::ask_line;
 use super::sheets::A;
 use super::sheets::CHECKS_0;
 use super::sheets::ENDING;
+use super::sheets::F;
 use super::sheets::FAN;
 use super::sheets::FINDINGS_0;
-use super::sheets::ONE;
 use super::sheets::PAIR_E;
 use super::sheets::SETTLED_B;
 use ldfs::solve;
@@ -22,8 +22,8 @@ use model::MAX_STATES;
 
 // Questions 2 and 3: bytes and stages, with the offsets of the last stage and of the one past it.
 fn sizes() {
-    ask(b"bytes-19", &ONE[..19], 0, 0, 0);
-    ask(b"bytes-20", &ONE, 0, 0, 0);
+    ask(b"bytes-16", &F[..16], 0, 0, 0);
+    ask(b"bytes-17", &F, 0, 0, 0);
     ask_large(b"bytes-60000", 60000, 763, &FAN, 716, 47, 762, 764);
     ask_large(b"bytes-60001", 60001, 763, &FAN, 716, 47, 0, 0);
     work_full(b"bytes-60000-worked");
@@ -33,7 +33,8 @@ fn sizes() {
     ask_large(b"stages-4097", 49172, 4097, &ENDING, 4097, 0, 0, 4);
 }
 
-// Question 3: the head's kind, start and tag. Question 4: a byte too many, a check without findings and a junction without checks.
+// Question 3: the head's kind, start and tag. Question 4: a byte too many, a check without findings; and a junction
+// without checks, which passes.
 fn places() {
     ask_b(b"kind-1", 3, 1, 1);
     ask_b(b"kind-2", 3, 1, 2);
@@ -58,10 +59,10 @@ fn costs() {
 // Question 5: values and marks. A value that is in range but above the ending's cost, or the price of the junction's check, is refused by
 // question 7.
 fn values() {
-    ask_ending(b"ending-value-1000000000", 1000000, 1000000000, 0);
     ask_ending(b"ending-value-1000000001", 1000000, 1000000001, 0);
-    ask_b(b"junction-value-1000000000", 11, 4, 1000000000);
+    ask_ending(b"ending-value-1000000002", 1000000, 1000000002, 0);
     ask_b(b"junction-value-1000000001", 11, 4, 1000000001);
+    ask_b(b"junction-value-1000000002", 11, 4, 1000000002);
     ask_ending(b"ending-mark-1", 70, 70, 1);
     ask_ending(b"ending-mark-2", 70, 70, 2);
     ask_b(b"junction-mark-2", 15, 1, 2);

@@ -59,6 +59,9 @@ fn answer(a: Answer, before: &[u8], after: &[u8]) {
         Outcome::Stopped => {
             figures(b" stopped", a.price, a.passes, a.raises);
         }
+        Outcome::None => {
+            figures(b" none", a.price, a.passes, a.raises);
+        }
     }
 }
 

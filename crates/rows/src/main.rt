@@ -3,7 +3,7 @@
 // specification and were worked out by hand, not taken from a run. Where `solve` refuses a sheet and changes a byte of it, the line has
 // the word `changed`, which `stdout` has nowhere.
 //
-// The tables of S11 give the lines up to `E-findings-3-3`, but for two. S11.15 says of 16 checks, and of 16 findings, only that they are
+// The tables of S11 give the lines up to `I-one-check`, but for two. S11.15 says of 16 checks, and of 16 findings, only that they are
 // accepted; that working them gives `settled 1 2 1` follows from S6: every check costs 1 and every ending 0, so pass 1 finds each price,
 // 1, above the start's value, 0, raises that to 1 and fails, and pass 2 succeeds with no raise.
 //
@@ -13,8 +13,9 @@
 //   above.
 // - `stages-4096`: 8 + 4,095 * 12 = 49,148 is the last stage's offset, so it has 49,160 bytes. 4,097 stages have 49,172 bytes, so question
 //   2 passes and 3 refuses. 1,024 and 1,025 stages have 12,296 and 12,308 bytes, and their last stages the offsets 12,284 and 12,296.
-// - `ending-value-1000000000`, `junction-value-1000000000`: in the range of question 5, and above the cost 1,000,000 and the price 100:
+// - `ending-value-1000000001`, `junction-value-1000000001`: in the range of question 5, and above the cost 1,000,000 and the price 100:
 //   question 7.
+// - `bytes-17`, `checks-0`: a junction without checks is in place (S4.4), and passes the others.
 // - `A-settled-chosen-0`: the output for A (S11.16) says that the start chose check 1 at 500. Check 0 then costs 200 + 400, since pass 2
 //   raised stage 1 to 400, and 600 is not 500: question 8. Check 2 is out of range: question 5.
 // - `B-settled` has the least costs 150, 30 and 50 of the row B worst. With a finding open again, or at 149, question 8 refuses it.

@@ -1,9 +1,11 @@
 // The rows of S11, in its order.
 use super::cases::ask;
 use super::cases::ask_b;
+use super::cases::ask_ending;
 use super::cases::lay;
 use super::cases::work;
 use super::cases::work_b;
+use super::large::beside;
 use super::large::both;
 use super::large::chains;
 use super::lines::LARGEST;
@@ -13,23 +15,29 @@ use super::sheets::APART_E;
 use super::sheets::B;
 use super::sheets::C;
 use super::sheets::CHECK;
+use super::sheets::CHECK_I;
+use super::sheets::CHECKS_I;
 use super::sheets::CRADLES_16;
 use super::sheets::D;
 use super::sheets::E;
+use super::sheets::F;
 use super::sheets::FINDINGS_16;
 use super::sheets::FINDINGS_17;
 use super::sheets::FREE_C;
+use super::sheets::G;
+use super::sheets::H;
 use super::sheets::ONE;
 use super::sheets::PAIR_E;
+use super::sheets::SETTLED_F;
 use super::sheets::VALUED_D;
 use model::MAX_STATES;
 
-// A sheet stopped after two raises, and that sheet carried on.
-fn carried_on(stopped: &[u8], on: &[u8], base: &[u8]) {
+// A sheet worked with a budget, and that sheet carried on.
+fn carried_on(worked: &[u8], on: &[u8], base: &[u8], budget: u64) {
     let mut sheet = [0u8; 128];
     let mut table = [0u32; MAX_STATES];
     let n = lay(&mut sheet, base, 0, 0, 0);
-    work_line(stopped, &mut sheet, n, &mut table, 2);
+    work_line(worked, &mut sheet, n, &mut table, budget);
     work_line(on, &mut sheet, n, &mut table, LARGEST);
 }
 
@@ -38,7 +46,7 @@ fn first_rows() {
     work(b"ending-0", &ONE, 0, 0, 0, LARGEST);
     work(b"ending-70-budget-1", &ONE, 11, 4, 70, 1);
     work(b"A", &A, 0, 0, 0, LARGEST);
-    carried_on(b"A-budget-2", b"A-carried-on", &A);
+    carried_on(b"A-budget-2", b"A-carried-on", &A, 2);
     work_b(b"B-worst", 0, 0, 0);
     work_b(b"B-whole", 3, 1, 1);
     ask_b(b"B-value-100-check", 11, 4, 100);
@@ -83,7 +91,7 @@ fn dearest_rows() {
 fn repeat_rows() {
     work(b"D", &D, 0, 0, 0, LARGEST);
     work(b"D-worst", &D, 3, 1, 0, LARGEST);
-    carried_on(b"D-budget-2", b"D-carried-on", &D);
+    carried_on(b"D-budget-2", b"D-carried-on", &D, 2);
     ask(b"D-value-160-check", &VALUED_D, 0, 0, 0);
     ask(b"D-value-161-check", &VALUED_D, 11, 4, 161);
     work(b"cradles-16", &CRADLES_16, 0, 0, 0, LARGEST);
@@ -91,6 +99,41 @@ fn repeat_rows() {
     work(b"E-findings-1-2-1", &APART_E, 0, 0, 0, LARGEST);
     work(b"E-findings-0-0", &PAIR_E, 24, 4, 0, LARGEST);
     work(b"E-findings-3-3", &PAIR_E, 24, 4, 0x00030003, LARGEST);
+}
+
+// Sheet F, a junction without checks, open and settled, with other values and chosen checks; an ending at none and above; the fewest bytes.
+fn barren_rows() {
+    work(b"F", &F, 0, 0, 0, LARGEST);
+    carried_on(b"F-budget-1", b"F-carried-on", &F, 1);
+    work(b"F-value-1000000001", &F, 11, 4, 1000000001, LARGEST);
+    work(b"F-value-1000000002", &F, 11, 4, 1000000002, LARGEST);
+    ask(b"F-settled-check", &SETTLED_F, 0, 0, 0);
+    work(
+        b"F-settled-at-1000000000",
+        &SETTLED_F,
+        11,
+        4,
+        1000000000,
+        LARGEST,
+    );
+    work(b"F-settled-at-0", &SETTLED_F, 11, 4, 0, LARGEST);
+    work(b"F-chosen-1", &F, 16, 1, 1, LARGEST);
+    work(b"F-settled-chosen-1", &SETTLED_F, 16, 1, 1, LARGEST);
+    ask_ending(b"ending-70-value-1000000001", 70, 1000000001, 0);
+    ask_ending(b"ending-70-value-1000000002", 70, 1000000002, 0);
+    work(b"F-16-bytes", &F[..16], 0, 0, 0, LARGEST);
+    work(b"ending-19-bytes", &ONE[..19], 0, 0, 0, LARGEST);
+}
+
+// Sheet G of both kinds, one of whose checks leads to an ending; sheet H, none of whose does, and carried on; sheet I, with a sum at the
+// ceiling beside none, and in one check.
+fn none_rows() {
+    work(b"G-worst", &G, 0, 0, 0, LARGEST);
+    work(b"G-whole", &G, 3, 1, 1, LARGEST);
+    work(b"H", &H, 0, 0, 0, LARGEST);
+    carried_on(b"H-budget-2", b"H-carried-on", &H, 2);
+    beside(b"I", &CHECKS_I);
+    beside(b"I-one-check", &CHECK_I);
 }
 
 // Every row.
@@ -101,4 +144,6 @@ pub fn rows() {
     stage_rows();
     dearest_rows();
     repeat_rows();
+    barren_rows();
+    none_rows();
 }

@@ -1,20 +1,22 @@
 -- What the loop over a decision's actions carries, and each way through a turn of it.
 use Prim.Native.Nat.{ℕ, suc, _+_, _*_, _<_, _≤_, min}
-use mathlib.Core.Path.{_≡_, _∙_, sym}
+use mathlib.Core.Path.{_≡_, refl, _∙_, sym}
 use mathlib.Core.Bool.{true, false}
+use mathlib.Core.Option.{some}
 use mathlib.Core.List.{List}
 use native.Mathlib.Omega.{arith}
 use native.Mathlib.Numerals.{add-one}
 use lib.Dec.{eqb}
 use lib.ListN.{length, getD, drop}
-use Rattle.model.specs.Problem.{Problem, states, nodeAt, actionAt, valueOf}
+use Rattle.model.specs.Problem.{Problem, states, nodeAt, actionAt, cellOf, valueOf}
 use Rattle.model.specs.Format.{decisionTag, actionTag, tagOf, valueOffset, actionOffset}
 use Rattle.model.specs.Read.{problemOf, cellsOf, actionRead}
+use Rattle.model.specs.Limits.{noPlan}
 use Rattle.model.specs.QValue.{q, least}
-use Rattle.model.specs.Ldfs.{Search, Visit, failure, valueAt, solvedAt, priceAt, update}
-use Rattle.sheet.specs.Sheet.{Sheet}
+use Rattle.model.specs.Ldfs.{Search, Visit, success, failure, valueAt, solvedAt, priceAt, marked, update}
+use Rattle.sheet.specs.Sheet.{Sheet, Within}
 use Rattle.sheet.proofs.Laws.{problem-is, within, is-decision, actionsAt, action-stands, action-ends}
-use Rattle.theory.specs.Consistent.{WellFormed}
+use Rattle.theory.specs.Consistent.{endOf, WellFormed}
 use Rattle.theory.proofs.QValueLaws.{q-mono}
 use Rattle.theory.proofs.Leads.{Ready, Leads, stay, then}
 use Rattle.theory.proofs.Visits.{abandoned-leads}
@@ -28,6 +30,7 @@ use Rattle.search.specs.Did.{visitOf, visiting, trying, Workable, Did}
 use Rattle.search.specs.Keeps.{Keeps}
 use Rattle.search.specs.Opens.{Opens, Fair}
 use Rattle.search.proofs.Actions.{Turn, turn-is, turn-next}
+use Rattle.search.proofs.Ends.{barren-end, ends-said}
 use Rattle.search.proofs.Keeping.{keeps-none, keeps-skipped, keeps-abandoned}
 use Rattle.search.proofs.Updates.{did, also-said}
 use Rattle.search.proofs.Trying.{reached, held, workable}
@@ -43,14 +46,17 @@ pub record Opened (t : List ℕ) (p : Problem) (budget : ℕ) (d : OpenDecision)
   pub place : d .cell ≡ valueOffset p (d .state)
   pub now : d .value ≡ valueOf (cellsOf s) (d .state)
 
--- the loop over its actions has come to action n, whose place is o, with the bytes s and r raises
+-- the loop over its actions has come to action n, whose place is o, with the bytes s and r raises; at the first nothing has changed, and
+-- where there is one, what the visit says is what it says from action n on
 pub record Acting (t : List ℕ) (p : Problem) (budget i : ℕ) (s₀ : List ℕ) (r₀ : ℕ) (s : List ℕ)
     (r n o : ℕ) (kept : Kept) : Type 0 where
   pub sheet : Sheet s t p (cellsOf s)
   pub leads : Leads p budget (suc i) (reached s₀ r₀) (reached s r)
   pub upto : n ≤ length (actionsAt p i)
   pub place : o ≡ actionOffset p i n
-  pub run : visiting p budget i (reached s₀ r₀) ≡ actionsFrom p budget (visiting p budget) i (actionsAt p i) n (reached s r)
+  pub first : n ≡ 0 → (s ≡ s₀) × (r ≡ r₀)
+  pub run : 0 < length (actionsAt p i) →
+      visiting p budget i (reached s₀ r₀) ≡ actionsFrom p budget (visiting p budget) i (actionsAt p i) n (reached s r)
   pub keeps : Keeps (priceAt p (reached s r)) (actionsAt p i) n kept
 
 module _ {t : List ℕ} {p : Problem} {budget : ℕ} {d : OpenDecision} {s₀ : List ℕ} {r₀ : ℕ}
@@ -61,22 +67,25 @@ module _ {t : List ℕ} {p : Problem} {budget : ℕ} {d : OpenDecision} {s₀ : 
   abbrev to : ℕ → Search → Visit
   to = visiting p budget
 
-  pub begins : {o : ℕ} {kept : Kept} → o ≡ actionOffset p i 0 → (kept .fresh ≡ 1000000000) × (kept .old ≡ 1000000000) →
+  pub begins : {o : ℕ} {kept : Kept} → o ≡ actionOffset p i 0 → (kept .fresh ≡ 1000000001) × (kept .old ≡ 1000000001) →
       Acting t p budget i s₀ r₀ s₀ r₀ 0 o kept
   begins e none = record {
     sheet = w .sheet;
     leads = stay (w .ready);
     upto = omega arith;
     place = e;
-    run = visit-decision p budget (w .formed) i _ (w .below) (actionsAt p i) (w .unsolved) (is-decision (nodeAt p i) (w .tag));
+    first = λ _. (refl, refl);
+    run = λ has.
+        visit-decision p budget (w .formed) i _ (w .below) (actionsAt p i) has (w .unsolved) (is-decision (nodeAt p i) (w .tag));
     keeps = keeps-none _ none;
   }
 
   module _ {s : List ℕ} {r n o : ℕ} {kept : Kept} (m : Acting t p budget i s₀ r₀ s r n o kept) where
     -- the decision still has its value, and the sheet can be worked
-    pub still-opens : Opens s t d
-    still-opens = record {
+    pub still-opens : 0 < length (actionsAt p i) → Opens s t d
+    still-opens has = record {
       decision = record { within = within (m .sheet) i (w .below); tag = rw (problem-is (m .sheet)) (w .tag) };
+      some = rw (problem-is (m .sheet)) has;
       place = rw (problem-is (m .sheet)) (w .place);
       is = w .now ∙ sym (held (m .leads));
     }
@@ -98,16 +107,37 @@ module _ {t : List ℕ} {p : Problem} {budget : ℕ} {d : OpenDecision} {s₀ : 
       last : n ≡ length (actionsAt p i)
       last = omega (arith, m .upto, action-ends (m .sheet) i (w .below) (w .tag) n o (m .place) e)
 
+      pub some-there : 0 < n → 0 < length (actionsAt p i)
+      some-there has = omega (arith, last)
+
       pub all-kept : Keeps (q (problemOf s .kind) (valueOf (cellsOf s))) (actionsAt (problemOf s) i)
           (length (actionsAt (problemOf s) i)) kept
       all-kept = rw (problem-is (m .sheet)) (rw last at (m .keeps))
 
-      pub fails : {s′ : List ℕ} {v : Visited} →
+      -- there was one: the visit fails
+      pub fails : 0 < n → {s′ : List ℕ} {v : Visited} →
           Did t (problemOf s) s′ v
           (update budget i (least (q (problemOf s .kind) (valueOf (cellsOf s))) (actionsAt (problemOf s) i)) failure (reached s r)) →
           Did t p s′ v (visiting p budget i (reached s₀ r₀))
-      fails g =
-          also-said (rw (problem-is (m .sheet)) at g) (sym (m .run ∙ rw last (actions-end p budget to i (actionsAt p i) (reached s r))))
+      fails has g =
+          let ran = m .run (some-there has) in
+          also-said (rw (problem-is (m .sheet)) at g) (sym (ran ∙ rw last (actions-end p budget to i (actionsAt p i) (reached s r))))
+
+      -- there was none: the decision is finished at none
+      module _ (z : n ≡ 0) where
+        ends : endOf (nodeAt p i) ≡ some noPlan
+        ends = barren-end (nodeAt p i) (w .tag) (omega (arith, last))
+
+        pub barren-given : Within s t i × (cellOf (cellsOf s) i .chosen ≡ 0)
+        barren-given = (within (m .sheet) i (w .below), m .leads .ready .consistent .sound i .endless noPlan ends)
+
+        pub finishes : {s′ : List ℕ} {v : Visited} →
+            Did t (problemOf s) s′ v (update budget i noPlan (λ w′. success (marked i 0 w′)) (reached s r)) →
+            Did t p s′ v (visiting p budget i (reached s₀ r₀))
+        finishes g =
+            let (same-bytes, same-raises) = m .first z in
+            ends-said (cellsOf s₀) budget i r₀ noPlan (w .formed) (w .below) (w .unsolved) ends
+            (rw (problem-is (m .sheet), same-bytes, same-raises) at g)
 
     module _ (u : Turn p i n o) where
       -- the price of the action, as the code says it
@@ -135,15 +165,18 @@ module _ {t : List ℕ} {p : Problem} {budget : ℕ} {d : OpenDecision} {s₀ : 
           tried : (way : Way) → v .way ≡ way → trying p budget i n (reached s r) ≡ visitOf (cellsOf s′) way (v .raises)
           tried way e = sym (own .said) ∙ (rw e)
 
+          ran : to i (reached s₀ r₀) ≡ actionsFrom p budget to i (actionsAt p i) n (reached s r)
+          ran = m .run (omega (arith, u .exists))
+
           pub succeeds : v .way ≡ Success → {v′ : Visited} → (v′ .way ≡ Success) × (v′ .raises ≡ v .raises) →
               Did t p s′ v′ (visiting p budget i (reached s₀ r₀))
           succeeds e says =
-              did (own .sheet) (sym (m .run ∙ action-passes p budget to i (actionsAt p i) n _ _ (u .exists) cheap (tried Success e))) says
+              did (own .sheet) (sym (ran ∙ action-passes p budget to i (actionsAt p i) n _ _ (u .exists) cheap (tried Success e))) says
 
           pub halts : v .way ≡ Halt → {v′ : Visited} → (v′ .way ≡ Halt) × (v′ .raises ≡ v .raises) →
               Did t p s′ v′ (visiting p budget i (reached s₀ r₀))
           halts e says =
-              did (own .sheet) (sym (m .run ∙ action-halts p budget to i (actionsAt p i) n _ _ (u .exists) cheap (tried Halt e))) says
+              did (own .sheet) (sym (ran ∙ action-halts p budget to i (actionsAt p i) n _ _ (u .exists) cheap (tried Halt e))) says
 
           -- abandoned: the action is priced at once, at y, and the next stands at o′
           module _ (e : v .way ≡ Failure) where
@@ -161,7 +194,9 @@ module _ {t : List ℕ} {p : Problem} {budget : ℕ} {d : OpenDecision} {s₀ : 
               leads = then (m .leads) since;
               upto = omega (arith, u .exists);
               place = turn-next u (m .sheet) _ next;
-              run = m .run ∙ rw add-one (action-fails p budget to i (actionsAt p i) n _ _ (u .exists) cheap (tried Failure e));
+              first = λ z. absurd (omega arith);
+              run = λ has.
+                  m .run has ∙ rw add-one (action-fails p budget to i (actionsAt p i) n _ _ (u .exists) cheap (tried Failure e));
               keeps =
                   keeps-abandoned (m .keeps) _ (λ k. q-mono (p .kind) _ _ (actionAt (actionsAt p i) k) (λ f z. since .rises f))
                   (priced (own .sheet) anew) now-kept;
@@ -177,8 +212,9 @@ module _ {t : List ℕ} {p : Problem} {budget : ℕ} {d : OpenDecision} {s₀ : 
               leads = m .leads;
               upto = omega (arith, u .exists);
               place = turn-next u (m .sheet) _ next;
-              run =
-                  m .run ∙ rw add-one (action-skipped p budget to i (actionsAt p i) n (reached s r) (reached s r) (u .exists)
+              first = λ z. absurd (omega arith);
+              run = λ has.
+                  m .run has ∙ rw add-one (action-skipped p budget to i (actionsAt p i) n (reached s r) (reached s r) (u .exists)
                   (omega (arith, w .now, priced (m .sheet) is, held (m .leads))));
               keeps = keeps-skipped (m .keeps) (priced (m .sheet) is) now-kept;
             }

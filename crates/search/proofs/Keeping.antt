@@ -6,10 +6,10 @@ use mathlib.Core.List.{List}
 use native.Mathlib.Omega.{arith}
 use lib.ListN.{length}
 use Rattle.model.specs.Problem.{Action, actionAt}
-use Rattle.model.specs.Limits.{ceiling}
+use Rattle.model.specs.Limits.{ceiling, noPlan}
 use Rattle.model.specs.QValue.{least}
 use Rattle.theory.proofs.Basics.{same-or-not}
-use Rattle.theory.proofs.QValueLaws.{least-below, least-above}
+use Rattle.theory.proofs.QValueLaws.{least-below, least-small, least-above}
 use Rattle.search.specs.declared.kept.Kept.{Kept}
 use Rattle.search.specs.Keeps.{Keeps}
 
@@ -22,7 +22,7 @@ one-more P n each last i lt = go (same-or-not i n)
     go (inr ne) = each i (omega arith)
 
 module _ {acts : List Action} where
-  pub keeps-none : (f : Action → ℕ) {kept : Kept} → (kept .fresh ≡ 1000000000) × (kept .old ≡ 1000000000) → Keeps f acts 0 kept
+  pub keeps-none : (f : Action → ℕ) {kept : Kept} → (kept .fresh ≡ 1000000001) × (kept .old ≡ 1000000001) → Keeps f acts 0 kept
   unfolding ceiling
   keeps-none f e = record { low = λ i lt. absurd (omega arith); high = λ x top all. omega (arith, e .0) }
 
@@ -50,9 +50,9 @@ module _ {acts : List Action} where
 
   -- all are gone through, and no old price is less
   pub keeps-least : {f : Action → ℕ} {kept : Kept} → Keeps f acts (length acts) kept → 0 < length acts →
-      ((a : Action) → f a ≤ ceiling) →
+      ((a : Action) → f a ≤ noPlan) →
       kept .fresh ≤ kept .old → kept .fresh ≡ least f acts
-  keeps-least {f} {kept} h some cut le =
-      let lower = least-above f acts (min (kept .old) (kept .fresh)) some (h .low) in
-      let upper = h .high (least f acts) (omega (arith, least-below f acts 0 some, cut (actionAt acts 0))) (least-below f acts) in
+  keeps-least {f} {kept} h some small le =
+      let lower = least-above f acts (min (kept .old) (kept .fresh)) (omega (arith, h .low 0 some, small (actionAt acts 0))) (h .low) in
+      let upper = h .high (least f acts) (least-small f acts) (least-below f acts) in
       omega (arith, lower, upper)

@@ -1,3 +1,4 @@
+pub mod Ends
 pub mod Actions
 pub mod Deciding
 pub mod Keeping

@@ -7,6 +7,7 @@ use native.Mathlib.Numerals.{add-one}
 use Rattle.model.specs.Problem.{Problem, states}
 use Rattle.model.specs.Read.{cellsOf}
 use Rattle.model.specs.Ldfs.{work}
+use Rattle.model.specs.Ldfs.{workBy}
 use Rattle.sheet.specs.Sheet.{Sheet}
 use Rattle.theory.specs.Consistent.{WellFormed, Consistent}
 use Rattle.theory.proofs.LimitLaws.{values-few}
@@ -30,7 +31,7 @@ pub record Passing (t : List ℕ) (p : Problem) (budget : ℕ) (s₀ s : List �
 
 pub sets-out : {t s : List ℕ} {p : Problem} {budget : ℕ} → Sheet s t p (cellsOf s) → WellFormed p →
     Consistent p (cellsOf s) → Passing t p budget s s 0 0
-unfolding work
+unfolding workBy
 sets-out {budget} h wf cs = record {
   sheet = h;
   formed = wf;

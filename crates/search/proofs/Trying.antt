@@ -12,7 +12,7 @@ use Rattle.model.specs.Ldfs.{Search, Visit, success, failure, valueAt, priceAt}
 use Rattle.sheet.specs.Sheet.{Sheet}
 use Rattle.sheet.proofs.Laws.{problem-is, actionsAt}
 use Rattle.theory.specs.Consistent.{WellFormed, Consistent}
-use Rattle.theory.proofs.QValueLaws.{qFull-same}
+use Rattle.theory.proofs.QValueLaws.{q-same}
 use Rattle.theory.proofs.Leads.{Ready, Leads, stay, then, wider, value-of}
 use Rattle.theory.proofs.Visits.{Visited as Ends, visit-does}
 use Rattle.theory.proofs.Turns.{successorsFrom, successor-halts, successor-fails, successor-dear, successor-passes, successors-end}
@@ -130,7 +130,7 @@ module _ {t : List ℕ} {p : Problem} {budget i n o value : ℕ} {s₀ : List �
       -- nothing was raised, so no price changed
       pub passes-quietly : v .raises ≡ r → Trying t p budget i a s₀ r₀ s′ (v .raises) (j + 1)
       passes-quietly same =
-          let price = qFull-same (p .kind) (valueAt (reached s r)) (valueAt (reached s′ (v .raises))) a in
+          let price = q-same (p .kind) (valueAt (reached s r)) (valueAt (reached s′ (v .raises))) a in
           passes (omega (arith, l .fair, since .quiet same i, price (λ u m. sym (since .quiet same u))))
 
       -- the action is priced anew, at y

@@ -1,17 +1,21 @@
--- What an update leaves in the bytes, and the answers of a terminal and of a decision none of whose actions passed.
+-- What an update leaves in the bytes, and the answers of a state that has no action to try and of a decision none of whose
+-- actions passed.
 use Prim.Native.Nat.{ℕ, _+_, _<_, _≤_}
 use mathlib.Core.Path.{_≡_, _∙_, sym}
 use mathlib.Core.Bool.{Bool, true, false}
+use mathlib.Core.Logic.{_⊎_, inl, inr}
 use mathlib.Core.List.{List}
 use native.Mathlib.Omega.{arith}
 use native.Mathlib.Numerals.{add-one}
 use lib.ListN.{length, set}
-use Rattle.model.specs.Problem.{Problem, Cell, states, nodeAt, setValue, setSolved}
-use Rattle.model.specs.Format.{put32, terminalTag, decisionTag, tagOf, valueOffset}
+use lib.Seq.{getD-set-same}
+use Rattle.model.specs.Problem.{Problem, Cell, cell, states, nodeAt, cellOf, setValue, setSolved}
+use Rattle.model.specs.Format.{put32, decisionTag, tagOf, valueOffset}
 use Rattle.model.specs.Read.{problemOf, cellsOf}
-use Rattle.model.specs.Ldfs.{Search, Visit, success, failure, halt, marked, update}
-use Rattle.sheet.specs.Sheet.{Sheet, costOf}
-use Rattle.sheet.proofs.Laws.{cells-are, named, chosen-room, with-value, with-terminal-solved, with-decision-solved}
+use Rattle.model.specs.Ldfs.{Search, Visit, success, failure, halt, valueAt, marked, update}
+use Rattle.sheet.specs.Sheet.{Sheet}
+use Rattle.sheet.proofs.Laws.{cells-are, named, has-cell, chosen-room, with-value, with-end-solved, with-decision-solved}
+use Rattle.theory.proofs.Basics.{lt-or-le}
 use Rattle.theory.proofs.Turns.{update-stores, update-raises, update-halts}
 use Rattle.search.specs.declared.visits.Way.{Way}
 use Rattle.search.specs.declared.visits.Way.the-variants.{Success, Failure, Halt}
@@ -76,22 +80,45 @@ module _ {s t : List ℕ} {p : Problem} {u : Updated} {o : (Search → Visit) �
   pub stopped : u .done ≡ false → halt (search (cellsOf s) (u .raises)) ≡ o next
   stopped e = (rw e) ∙ d .said next
 
--- an open terminal, whose value becomes its cost
-module _ {s t : List ℕ} {p : Problem} {i at value : ℕ} (g : ValueAt s t p i at value) (tag : tagOf (nodeAt p i) ≡ terminalTag)
-    {cost : ℕ} (budget r : ℕ) (is : cost ≡ costOf (nodeAt p i)) {s′ : List ℕ} {u : Updated}
-    (d : Stored t p s′ u (updated s i cost budget r)) where
-  abbrev terminal-visited : Visit
-  terminal-visited = update budget i (costOf (nodeAt p i)) (λ w. success (marked i 0 w)) (search (cellsOf s) r)
+-- an update that was done has changed the value alone
+changed : (s : List ℕ) {t s′ : List ℕ} {p : Problem} (i x budget r : ℕ) {u : Updated} →
+    Stored t p s′ u (updated s i x budget r) →
+    u .done ≡ true → cellsOf s′ ≡ setValue (cellsOf s) i x
+changed s {s′ = s′} i x budget r d e = go (lt-or-le (valueAt before i) x) (lt-or-le r budget)
+  where
+    before : Search
+    before = search (cellsOf s) r
+
+    -- the search that the update hands on
+    handed : (w : Search) → update budget i x success before ≡ success w → cellsOf s′ ≡ w .cells
+    handed w is = let same = went-on d success e ∙ is in cc
+
+    go : (valueAt before i < x) ⊎ (x ≤ valueAt before i) → (r < budget) ⊎ (budget ≤ r) →
+        cellsOf s′ ≡ setValue (cellsOf s) i x
+    go (inl up) (inl room) = handed _ (update-raises budget i x success before up room)
+    go (inl up) (inr full) =
+        let z : success _ ≡ halt before = went-on d success e ∙ update-halts budget i x success before up full in
+        let no : _≡_ {A = ℕ} 0 1 = cc in absurd (omega arith)
+    go (inr le) room = handed _ (update-stores budget i x success before le)
+
+-- an open state at which nothing is chosen, whose value becomes x
+module _ {s t : List ℕ} {p : Problem} {i at value : ℕ} (g : ValueAt s t p i at value) (none : cellOf (cellsOf s) i .chosen ≡ 0)
+    (x budget r : ℕ) {s′ : List ℕ} {u : Updated} (d : Stored t p s′ u (updated s i x budget r)) where
+  abbrev finished : Visit
+  finished = updated s i x budget r (λ w. success (marked i 0 w))
 
   pub settles : u .done ≡ true → {s″ : List ℕ} → s″ ≡ set s′ (at + 4) 1 → {v : Visited} →
       (v .way ≡ Success) × (v .raises ≡ u .raises) →
-      Did t p s″ v terminal-visited
+      Did t p s″ v finished
   settles e last says =
-      let solved = with-terminal-solved (d .sheet) i (g .below) tag in
-      rw (← is) (did (rw (last, g .place) solved) (went-on d (λ w. success (marked i 0 w)) e) says)
+      let raised = cell x (cellOf (cellsOf s) i .mark) (cellOf (cellsOf s) i .chosen) in
+      let same = getD-set-same (cellsOf s) i raised (cell 0 0 0) (has-cell (g .sheet) i (g .below)) in
+      let kept : cellOf (cellsOf s′) i .chosen ≡ 0 = rw (changed s i x budget r d e, same) none in
+      let solved = with-end-solved (d .sheet) i (g .below) kept in
+      did (rw (last, g .place) solved) (went-on d (λ w. success (marked i 0 w)) e) says
 
-  pub no-room : u .done ≡ false → {v : Visited} → (v .way ≡ Halt) × (v .raises ≡ u .raises) → Did t p s′ v terminal-visited
-  no-room e says = rw (← is) (did (d .sheet) (stopped d (λ w. success (marked i 0 w)) e) says)
+  pub no-room : u .done ≡ false → {v : Visited} → (v .way ≡ Halt) × (v .raises ≡ u .raises) → Did t p s′ v finished
+  no-room e says = did (d .sheet) (stopped d (λ w. success (marked i 0 w)) e) says
 
 -- a decision whose value becomes the least price
 module _ (s : List ℕ) {t : List ℕ} {p : Problem} (i budget r : ℕ) {x y : ℕ} (is : x ≡ y) {s′ : List ℕ} {u : Updated}

@@ -17,9 +17,10 @@ pub record ValueAt (s t : List ℕ) (p : Problem) (i at value : ℕ) : Type 0 wh
   pub place : at ≡ valueOffset p i
   pub is : value ≡ valueOf (cellsOf s) i
 
--- a decision of the sheet, with where its value stands and what it is
+-- a decision of the sheet that has an action, with where its value stands and what it is
 pub record Opens (s t : List ℕ) (d : OpenDecision) : Type 0 where
   pub decision : Decision s t (d .state)
+  pub some : 0 < length (actionsOf (nodeAt (problemOf s) (d .state)))
   pub place : d .cell ≡ valueOffset (problemOf s) (d .state)
   pub is : d .value ≡ valueOf (cellsOf s) (d .state)
 

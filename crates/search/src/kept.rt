@@ -1,6 +1,6 @@
 // The least price of a decision's actions, and what is kept of their prices so that it is seldom worked out again.
 ghost use mathlib.Core.Path.{_≡_};
-ghost use Prim.Native.Nat.{min};
+ghost use Prim.Native.Nat.{_<_, min};
 ghost use lib.ListN.{length};
 ghost use Rattle.model.specs.Problem.{nodeAt, valueOf};
 ghost use Rattle.model.specs.Format.{actionsOf};
@@ -9,7 +9,7 @@ ghost use Rattle.model.specs.QValue.{q, least};
 ghost use Rattle.sheet.specs.Sheet.{Decision};
 ghost use Rattle.search.specs.Did.{Workable};
 ghost use Rattle.search.specs.Keeps.{Keeps};
-use model::CEILING;
+use model::NO_PLAN;
 use sheet::fields::action_here;
 use sheet::fields::first_action;
 use sheet::fields::next_action;
@@ -29,13 +29,13 @@ fn lesser(x: u32, y: u32) -> u32
     if x < y { x } else { y }
 }
 
-// Nothing is kept yet.
+// Nothing is kept yet: the least of no prices is none.
 pub(crate) fn none_kept() -> Kept
-    ensures { λ r. ⌜ (r .fresh ≡ 1000000000) × (r .old ≡ 1000000000) ⌝ }
+    ensures { λ r. ⌜ (r .fresh ≡ 1000000001) × (r .old ≡ 1000000001) ⌝ }
 {
     Kept {
-        fresh: CEILING,
-        old: CEILING,
+        fresh: NO_PLAN,
+        old: NO_PLAN,
     }
 }
 
@@ -59,15 +59,16 @@ pub(crate) fn abandoned(kept: Kept, x: u32) -> Kept
     }
 }
 
-// The least price of a decision's actions.
+// The least price of a decision's actions, of which there is one at least: the loop is tested at its end.
 fn least_price(sheet: &[u8], table: &[u32], state: usize) -> u32
     requires { ⌜ Decision (now sheet) (now table) state ⌝ }
+    requires { ⌜ 0 < length (actionsOf (nodeAt (problemOf (now sheet)) state)) ⌝ }
     requires { ⌜ Workable (now sheet) ⌝ }
     ensures { λ r. ⌜ r ≡ least (q (problemOf (now (sheet .entry)) .kind) (valueOf (cellsOf (now (sheet .entry)))))
         (actionsOf (nodeAt (problemOf (now (sheet .entry))) state)) ⌝ }
 {
     let mut at: usize = first_action(sheet, table, state);
-    let mut m: u32 = CEILING;
+    let mut m: u32 = NO_PLAN;
     loop {
         let a = at;
         at = next_action(sheet, a);
@@ -84,6 +85,7 @@ fn least_price(sheet: &[u8], table: &[u32], state: usize) -> u32
 // The least price of a decision's actions, all gone through: the least of the fresh ones where no old one can be less.
 pub(crate) fn least_kept(sheet: &[u8], table: &[u32], state: usize, kept: Kept) -> u32
     requires { ⌜ Decision (now sheet) (now table) state ⌝ }
+    requires { ⌜ 0 < length (actionsOf (nodeAt (problemOf (now sheet)) state)) ⌝ }
     requires { ⌜ Workable (now sheet) ⌝ }
     requires { ⌜ Keeps (q (problemOf (now sheet) .kind) (valueOf (cellsOf (now sheet))))
         (actionsOf (nodeAt (problemOf (now sheet)) state)) (length (actionsOf (nodeAt (problemOf (now sheet)) state))) kept ⌝ }

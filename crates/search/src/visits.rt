@@ -3,14 +3,14 @@
 ghost use mathlib.Core.Path.{_≡_};
 ghost use mathlib.Core.Bool.{false};
 ghost use mathlib.Core.List.{List};
-ghost use Prim.Native.Nat.{ℕ, _+_, _≤_};
+ghost use Prim.Native.Nat.{ℕ, _+_, _<_, _≤_};
 ghost use lib.ListN.{length};
 ghost use Rattle.model.specs.Problem.{Problem, nodeAt, cellOf, valueOf, solved};
 ghost use Rattle.model.specs.Format.{actionsOf};
 ghost use Rattle.model.specs.Read.{problemOf, cellsOf};
 ghost use Rattle.model.specs.QValue.{q, least};
 ghost use Rattle.model.specs.Ldfs.{success, failure, marked, update as updated};
-ghost use Rattle.sheet.specs.Sheet.{Within, Terminal, Decision, costOf};
+ghost use Rattle.sheet.specs.Sheet.{Within, Decision};
 ghost use Rattle.search.specs.Did.{search, visiting, trying, Stored, Did, Workable};
 ghost use Rattle.search.specs.Keeps.{Keeps};
 ghost use Rattle.search.specs.Opens.{ValueAt, Opens, Fair};
@@ -19,13 +19,14 @@ use super::kept::abandoned;
 use super::kept::least_kept;
 use super::kept::none_kept;
 use super::kept::skipped;
+use model::NO_PLAN;
 use model::format;
 use sheet::convert::word_to_index;
 use sheet::fields::action_here;
 use sheet::fields::first_action;
 use sheet::fields::is_terminal;
 use sheet::fields::mark_decision;
-use sheet::fields::mark_terminal;
+use sheet::fields::mark_end;
 use sheet::fields::next_action;
 use sheet::fields::solved_at;
 use sheet::fields::terminal_cost;
@@ -95,26 +96,26 @@ fn ended(way: Way, raises: u64) -> Visited
     Visited { way, raises }
 }
 
-// An open terminal: its value becomes its cost, and it is marked.
-fn visit_terminal(
+// An open state that has no action to try: its value becomes x, and it is marked. Nothing is chosen there, which is written 0 already.
+fn finish(
     sheet: &mut [u8],
     table: &[u32],
     state: usize,
+    x: u32,
     raises: u64,
     budget: u64,
 ) -> Visited
-    requires { ⌜ Terminal (now sheet) (now table) state ⌝ }
+    requires { ⌜ Within (now sheet) (now table) state ⌝ }
+    requires { ⌜ cellOf (cellsOf (now sheet)) state .chosen ≡ 0 ⌝ }
     ensures { λ r. ⌜ Did (now (table .entry)) (problemOf (now (sheet .entry))) (now (sheet .exit)) r
-        (updated budget state (costOf (nodeAt (problemOf (now (sheet .entry))) state)) (λ w. success (marked state 0 w))
-        (search (cellsOf (now (sheet .entry))) raises)) ⌝ }
+        (updated budget state x (λ w. success (marked state 0 w)) (search (cellsOf (now (sheet .entry))) raises)) ⌝ }
 {
     let at = value_place(sheet, table, state);
     let value = value_at(sheet, table, state);
-    let cost = terminal_cost(sheet, table, state);
-    let u = update(sheet, at, value, cost, raises, budget);
+    let u = update(sheet, at, value, x, raises, budget);
     let done = u.done;
     if done {
-        mark_terminal(sheet, at);
+        mark_end(sheet, at);
         ended(Way::Success, u.raises)
     } else {
         ended(Way::Halt, u.raises)
@@ -202,8 +203,9 @@ fn try_action(
     ended(Way::Success, spent)
 }
 
-// A visit to an open decision: its actions in order, one whose price is above the value skipped. An action that is abandoned is priced at
-// once. The answer of a try is made anew, not handed on: that keeps it in registers.
+// A visit to an open decision: its actions are taken in order, one whose price is above the value skipped. An action that is abandoned is
+// priced at once. A decision without actions is finished at none (S6.11), which is seen behind the loop. The answer of a try is made anew,
+// not handed on: that keeps it in registers.
 fn visit_decision(
     sheet: &mut [u8],
     table: &[u32],
@@ -227,15 +229,14 @@ fn visit_decision(
     let mut i: u32 = 0;
     while action_here(sheet, at) {
         let a = at;
-        let n = i;
         at = next_action(sheet, a);
-        i += 1;
         let x = price(sheet, table, a);
         if x.price > value {
             kept = skipped(kept, x.price);
+            i += 1;
             continue;
         }
-        let v = try_action(sheet, table, d, n, a, spent, budget);
+        let v = try_action(sheet, table, d, i, a, spent, budget);
         spent = v.raises;
         let way = v.way;
         match way {
@@ -245,6 +246,7 @@ fn visit_decision(
             Way::Failure => {
                 let y = price(sheet, table, a);
                 kept = abandoned(kept, y.price);
+                i += 1;
                 continue;
             }
             Way::Halt => {
@@ -252,10 +254,13 @@ fn visit_decision(
             }
         }
     }
+    if i == 0 {
+        return finish(sheet, table, state, NO_PLAN, spent, budget);
+    }
     fail(sheet, table, d, kept, spent, budget)
 }
 
-// A visit to a state: a solved one succeeds (S6.2).
+// A visit to a state: a solved one succeeds (S6.2), and a terminal is finished at its cost (S6.3).
 pub(crate) fn visit(
     sheet: &mut [u8],
     table: &[u32],
@@ -273,7 +278,8 @@ pub(crate) fn visit(
         return ended(Way::Success, raises);
     }
     if is_terminal(sheet, table, state) {
-        return visit_terminal(sheet, table, state, raises, budget);
+        let cost = terminal_cost(sheet, table, state);
+        return finish(sheet, table, state, cost, raises, budget);
     }
     visit_decision(sheet, table, state, raises, budget)
 }

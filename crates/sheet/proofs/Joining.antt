@@ -12,7 +12,11 @@ use lib.Seq.{drop-cons, drop-length}
 use Rattle.model.specs.Tests.{fork}
 use Rattle.model.specs.Problem.{Kind, worst, whole, Action, action, actionAt}
 use Rattle.model.specs.Read.{kindOf, problemOf}
-use Rattle.model.specs.QValue.{join, joined, dearerOf, dearestFrom, dearest, leastFrom, least}
+use Rattle.model.specs.Limits.{ceiling, noPlan}
+use Rattle.model.specs.Cost.{cut}
+use Rattle.model.specs.QValue.{join, q, dearerOf, dearestFrom, dearest, leastFrom}
+use Rattle.model.specs.Earlier.{joinedValues}
+use Rattle.layout.proofs.Prices.{price-none, price-number}
 use Rattle.sheet.specs.Sheet.{ofKind}
 
 join-assoc : (k : Kind) (a b c : ℕ) → join k a (join k b c) ≡ join k (join k a b) c
@@ -49,13 +53,14 @@ module _ (s : List ℕ) (x y : ℕ) where
   unfolding problemOf
   of-whole = of-byte (getD s 3 0) x y .1
 
-pub of-kind-fits : (k : Kind) (x y : ℕ) → ofKind k x y ≤ x + y
+pub of-kind-fits : (k : Kind) (x y : ℕ) → x ≤ y → (x ≤ ofKind k x y) × (ofKind k x y ≤ y)
 unfolding ofKind
-of-kind-fits worst x y = omega arith
-of-kind-fits whole x y = omega arith
+of-kind-fits worst x y le = (omega arith, omega arith)
+of-kind-fits whole x y le = (omega arith, omega arith)
 
 -- the largest and the sum, both at hand
-joined-of : (k : Kind) (v : ℕ → ℕ) (ts : List ℕ) → joined k v ts ≡ ofKind k (joined worst v ts) (joined whole v ts)
+joined-of : (k : Kind) (v : ℕ → ℕ) (ts : List ℕ) →
+    joinedValues k v ts ≡ ofKind k (joinedValues worst v ts) (joinedValues whole v ts)
 unfolding ofKind
 joined-of worst v ts = refl
 joined-of whole v ts = refl
@@ -63,17 +68,17 @@ joined-of whole v ts = refl
 module _ (k : Kind) (v : ℕ → ℕ) (ts : List ℕ) where
   -- x joins the values before number j
   abbrev pub joinedFrom : ℕ → ℕ → ℕ
-  joinedFrom j x = join k x (joined k v (drop j ts))
+  joinedFrom j x = join k x (joinedValues k v (drop j ts))
 
-  pub joined-begin : joined k v ts ≡ joinedFrom 0 0
-  joined-begin = sym (join-zero k (joined k v ts) .1)
+  pub joined-begin : joinedValues k v ts ≡ joinedFrom 0 0
+  joined-begin = sym (join-zero k (joinedValues k v ts) .1)
 
   pub joined-turn : (j x : ℕ) → j < length ts → joinedFrom j x ≡ joinedFrom (suc j) (join k x (v (getD ts j 0)))
-  unfolding joined
-  joined-turn j x lt = rw (drop-cons ts j 0 lt) (join-assoc k x (v (getD ts j 0)) (joined k v (drop (suc j) ts)))
+  unfolding joinedValues
+  joined-turn j x lt = rw (drop-cons ts j 0 lt) (join-assoc k x (v (getD ts j 0)) (joinedValues k v (drop (suc j) ts)))
 
   pub joined-end : (x : ℕ) → joinedFrom (length ts) x ≡ x
-  unfolding joined
+  unfolding joinedValues
   joined-end x = rw (drop-length ts) (join-zero k x .0)
 
 -- of `best`, whose value counts as `most`, and the states behind it, the first whose value is largest: as the loop finds it
@@ -129,9 +134,9 @@ module _ (v : ℕ → ℕ) (ts : List ℕ) where
 -- of them, the first successor
 pub record Sums (v : ℕ → ℕ) (ts : List ℕ) (total most best j : ℕ) : Type 0 where
   pub summed : total ≤ 4294967296 * j
-  pub largest : most < 4294967296
-  pub total-is : joined whole v ts ≡ joinedFrom whole v ts j total
-  pub most-is : joined worst v ts ≡ joinedFrom worst v ts j most
+  pub within : most ≤ total
+  pub total-is : joinedValues whole v ts ≡ joinedFrom whole v ts j total
+  pub most-is : joinedValues worst v ts ≡ joinedFrom worst v ts j most
   pub best-is : dearest v ts ≡ dearestWith v best most (drop j ts)
 
 module _ {v : ℕ → ℕ} {ts : List ℕ} where
@@ -139,7 +144,7 @@ module _ {v : ℕ → ℕ} {ts : List ℕ} where
   pub sums-none : {first : ℕ} → 0 < length ts → first ≡ getD ts 0 0 → Sums v ts 0 0 first 0
   sums-none some e = record {
     summed = omega arith;
-    largest = omega arith;
+    within = omega arith;
     total-is = joined-begin whole v ts;
     most-is = joined-begin worst v ts;
     best-is = rw e (dearest-begin v ts some);
@@ -151,17 +156,34 @@ module _ {v : ℕ → ℕ} {ts : List ℕ} where
         next ≡ dearerOf most x best t → Sums v ts (total + x) top next (j + 1)
     sums-more lt at e small larger next-is = record {
       summed = omega (arith, h .summed);
-      largest = omega (arith, h .largest, larger);
+      within = omega (arith, h .within, larger);
       total-is = rw (add-one, join-total, e, at) (h .total-is ∙ joined-turn whole v ts j total lt);
       most-is = rw (add-one, larger, join-most, e, at) (h .most-is ∙ joined-turn worst v ts j most lt);
       best-is = rw (add-one, next-is, larger, e, at) (h .best-is ∙ dearest-turn v ts best most j lt);
     }
 
-    pub sums-all : (k : Kind) → j ≡ length ts → joined k v ts ≡ ofKind k most total
+    sums-top : j ≡ length ts → joinedValues worst v ts ≡ most
+    sums-top e = rw e at (h .most-is) ∙ joined-end worst v ts most
+
+    sums-all : (k : Kind) → j ≡ length ts → joinedValues k v ts ≡ ofKind k most total
     sums-all k e =
-        let all : joined whole v ts ≡ total = rw e at (h .total-is) ∙ joined-end whole v ts total in
-        let top : joined worst v ts ≡ most = rw e at (h .most-is) ∙ joined-end worst v ts most in
-        joined-of k v ts ∙ rw (all, top)
+        let all : joinedValues whole v ts ≡ total = rw e at (h .total-is) ∙ joined-end whole v ts total in
+        joined-of k v ts ∙ rw (all, sums-top e)
+
+    -- the price of an action with these successors, once all have been gone through
+    pub sums-price : (k : Kind) (a : Action) → a .successors ≡ ts → j ≡ length ts →
+        q k v a ≡ fork (ltb ceiling most) (λ _. noPlan) (λ _. cut (a .cost + ofKind k most total))
+    sums-price k a is e = go (ltb ceiling most) refl
+      where
+        top : joinedValues worst v (a .successors) ≡ most
+        top = ap (joinedValues worst v) is ∙ sums-top e
+
+        all : joinedValues k v (a .successors) ≡ ofKind k most total
+        all = ap (joinedValues k v) is ∙ sums-all k e
+
+        go : (b : Bool) → ltb ceiling most ≡ b → q k v a ≡ fork b (λ _. noPlan) (λ _. cut (a .cost + ofKind k most total))
+        go true above = price-none k v a (rw top (ltb-true ceiling most above))
+        go false low = price-number k v a (rw top (ltb-false ceiling most low)) ∙ ap (λ (x : ℕ). cut (a .cost + x)) all
 
     pub sums-dearest : j ≡ length ts → best ≡ dearest v ts
     sums-dearest e = sym (rw e at (h .best-is) ∙ dearest-end v ts best most)
@@ -169,7 +191,7 @@ module _ {v : ℕ → ℕ} {ts : List ℕ} where
 module _ (f : Action → ℕ) (acts : List Action) where
   -- x is the least before number i
   abbrev pub leastSoFar : ℕ → ℕ → ℕ
-  leastSoFar i x = leastFrom x f (drop i acts)
+  leastSoFar i x = leastFrom min x f (drop i acts)
 
   pub least-turn : (x : ℕ) {i y : ℕ} → i < length acts → y ≡ min x (f (actionAt acts i)) →
       leastSoFar i x ≡ leastSoFar (i + 1) y
@@ -179,10 +201,3 @@ module _ (f : Action → ℕ) (acts : List Action) where
   pub least-end : (x : ℕ) → leastSoFar (length acts) x ≡ x
   unfolding leastFrom
   least-end x = rw (drop-length acts)
-
--- a loop may begin with anything that no price is above
-pub least-begin : (top : ℕ) (f : Action → ℕ) (acts : List Action) → ((a : Action) → f a ≤ top) → 0 < length acts →
-    least f acts ≡ leastFrom top f acts
-unfolding least leastFrom
-least-begin top f [] h lt = absurd (omega arith)
-least-begin top f (a ∷ more) h lt = let e : min top (f a) ≡ f a = omega (arith, h a) in rw e

@@ -5,8 +5,8 @@ use mathlib.Core.Bool.{Bool, true, false}
 use mathlib.Core.List.{List, _++_}
 use native.Mathlib.Omega.{arith}
 use native.Mathlib.Numerals.{add-one}
-use borrow.Author.Tests.{eqb-true, eqb-false}
-use lib.Dec.{eqb}
+use borrow.Author.Tests.{eqb-true, eqb-false, lt-ltb, le-ltb}
+use lib.Dec.{eqb, ltb}
 use lib.ListN.{length, getD, set, drop, length-set, length-append, List·getD-append}
 use lib.Seq.{getD-set-same, getD-set-other, set-set}
 use Rattle.model.specs.Problem.{Action, Node, terminal, decision, Problem, Cell, cell, states, nodeAt, actionAt, cellOf}
@@ -14,8 +14,8 @@ use Rattle.model.specs.Problem.{setValue, setSolved}
 use Rattle.model.specs.Format.{be32, put32, terminalTag, decisionTag, actionTag, write, nodeSize, actionPlace, tagOf}
 use Rattle.model.specs.Format.{valueIn, valueOffset, actionsOf, actionOffset, offsetsFrom}
 use Rattle.model.specs.Read.{actionFits, actionRead, problemOf, cellsOf}
-use Rattle.model.specs.Limits.{maxSuccessors}
-use Rattle.layout.specs.Shape.{FewActions, FewSuccessors, NodeShaped, ChosenShaped, Shaped, setMark, setChosen}
+use Rattle.model.specs.Limits.{maxActions, maxSuccessors}
+use Rattle.layout.specs.Shape.{FewSuccessors, NodeShaped, ChosenShaped, Shaped, setMark, setChosen}
 use Rattle.layout.proofs.Index.{offsets-count, index-is}
 use Rattle.layout.proofs.Places.{write-length}
 use Rattle.layout.proofs.Shapes.{node-shaped, action-shaped}
@@ -23,11 +23,11 @@ use Rattle.layout.proofs.Fields.{state-room, value-room, tag-at, value-at, mark
 use Rattle.layout.proofs.Fields.{chosen-at, chosen-stored, action-tag-at, action-next, after-last}
 use Rattle.layout.proofs.Back.{problem-back, cells-back}
 use Rattle.layout.proofs.Actions.{content-of, count-of, written-action, written-fits}
-use Rattle.sheet.specs.Sheet.{Sheet, Within, Terminal, Decision, Priced, costOf}
+use Rattle.sheet.specs.Sheet.{Sheet, Within, Terminal, Decision, Priced, terminalCost}
 
 -- A node by its tag, and where the value stands in its field.
-pub is-terminal : (n : Node) → tagOf n ≡ terminalTag → n ≡ terminal (costOf n)
-unfolding tagOf costOf
+pub is-terminal : (n : Node) → tagOf n ≡ terminalTag → n ≡ terminal (terminalCost n)
+unfolding tagOf terminalCost
 is-terminal (terminal cost) e = refl
 is-terminal (decision acts) e = absurd (omega arith)
 
@@ -172,7 +172,7 @@ module _ {s t : List ℕ} {p : Problem} {cells : List Cell} (h : Sheet s t p cel
       Sheet s′ t p (set cells i c)
   with-cell s′ c is ch = record { is = is; shaped = shaped-set (h .shaped) i c lt ch; wide = h .wide; table = h .table }
 
-  has-cell : i < length cells
+  pub has-cell : i < length cells
   has-cell = omega (arith, h .shaped .count)
 
   same-chosen : (c : Cell) → c .chosen ≡ cellOf cells i .chosen → ChosenShaped (nodeAt p i) c
@@ -184,16 +184,14 @@ module _ {s t : List ℕ} {p : Problem} {cells : List Cell} (h : Sheet s t p cel
   pub with-mark : (m : ℕ) → Sheet (set s (valueOffset p i + 4) m) t p (setMark cells i m)
   with-mark m = with-cell _ _ (rw (h .is) (mark-stored p cells i lt m has-cell)) (same-chosen _ refl)
 
+  -- marked where nothing is chosen
+  pub with-end-solved : cellOf cells i .chosen ≡ 0 → Sheet (set s (valueOffset p i + 4) 1) t p (setSolved cells i 0)
+  with-end-solved none-chosen = rw none-chosen at (with-mark 1)
+
   -- a terminal
   module _ (tag : tagOf (nodeAt p i) ≡ terminalTag) where
-    pub terminal-cost-of : be32 s (getD t i 0 + 3) ≡ costOf (nodeAt p i)
-    terminal-cost-of = rw (h .is, h .table i lt) (cost-at p cells i lt (costOf (nodeAt p i)) (is-terminal (nodeAt p i) tag))
-
-    none-chosen : cellOf cells i .chosen ≡ 0
-    none-chosen = rw (is-terminal (nodeAt p i) tag) at (h .shaped .chosen i lt)
-
-    pub with-terminal-solved : Sheet (set s (valueOffset p i + 4) 1) t p (setSolved cells i 0)
-    with-terminal-solved = rw none-chosen at (with-mark 1)
+    pub terminal-cost-of : be32 s (getD t i 0 + 3) ≡ terminalCost (nodeAt p i)
+    terminal-cost-of = rw (h .is, h .table i lt) (cost-at p cells i lt (terminalCost (nodeAt p i)) (is-terminal (nodeAt p i) tag))
 
   -- a decision
   module _ (tag : tagOf (nodeAt p i) ≡ decisionTag) where
@@ -231,7 +229,7 @@ module _ {s t : List ℕ} {p : Problem} {cells : List Cell} (h : Sheet s t p cel
   shape : NodeShaped (decision (actionsAt p i))
   shape = rw node-is at (node-shaped (p .nodes) (h .shaped .nodes) i)
 
-  pub few-actions : FewActions (actionsAt p i)
+  pub few-actions : length (actionsAt p i) ≤ maxActions
   few-actions = shape .0
 
   pub few-successors : (k : ℕ) → k < length (actionsAt p i) → FewSuccessors (actionAt (actionsAt p i) k .successors)
@@ -271,3 +269,11 @@ module _ {s t : List ℕ} {p : Problem} {cells : List Cell} (h : Sheet s t p cel
           let m : length (actionRead (drop o s) .successors) ≡ length (actionAt (actionsAt p i) k .successors) =
           ap (λ (a : Action). length (a .successors)) action-is in
           rw add-one (omega arith)
+
+  -- whether there is any
+  pub some-action : (o : ℕ) → o ≡ actionOffset p i 0 → eqb (getD s o 0) actionTag ≡ ltb 0 (length (actionsAt p i))
+  some-action o here = go (eqb (getD s o 0) actionTag) refl
+    where
+      go : (b : Bool) → eqb (getD s o 0) actionTag ≡ b → b ≡ ltb 0 (length (actionsAt p i))
+      go true e = sym (lt-ltb 0 (length (actionsAt p i)) (action-stands 0 o here (omega arith) e))
+      go false e = sym (le-ltb 0 (length (actionsAt p i)) (action-ends 0 o here e))

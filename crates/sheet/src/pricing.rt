@@ -1,11 +1,15 @@
 // The price of an action (S2.8) and its dearest successor (S2.9), for both kinds. Sums are kept in 64 bits before they are cut.
 ghost use mathlib.Core.Path.{_≡_};
 ghost use Prim.Native.Nat.{_+_, _<_, _≤_, max};
+ghost use lib.Dec.{ltb};
 ghost use lib.ListN.{length, drop};
 ghost use Rattle.model.specs.Problem.{valueOf};
 ghost use Rattle.model.specs.Format.{kindIn};
 ghost use Rattle.model.specs.Read.{problemOf, cellsOf, actionRead};
-ghost use Rattle.model.specs.QValue.{cut, q, dearerOf, dearest};
+ghost use Rattle.model.specs.Cost.{cut};
+ghost use Rattle.model.specs.Tests.{fork};
+ghost use Rattle.model.specs.Limits.{ceiling, noPlan};
+ghost use Rattle.model.specs.QValue.{q, dearerOf, dearest};
 ghost use Rattle.sheet.specs.Sheet.{Priced, ofKind};
 use super::convert::word_to_long;
 use super::fields::action_cost;
@@ -14,6 +18,7 @@ use super::fields::successor;
 use super::fields::value_at;
 use model::CEILING;
 use model::LONG_CEILING;
+use model::NO_PLAN;
 use model::format;
 
 // What pricing an action gives: its price, and the lowest-numbered of its successors whose value is largest.
@@ -48,11 +53,19 @@ fn of_kind(sheet: &[u8], most: u64, total: u64) -> u64
     }
 }
 
-// A number, cut to the ceiling.
-fn cut_off(x: u64) -> u32
-    ensures { λ r. ⌜ (r ≡ cut x) × (r ≤ 1000000000) ⌝ }
+// The amount that is written for a price of x where the largest of the successors' values is `most`: none where that is, else x cut. Only a
+// price that reaches the ceiling can be none, so most prices take one comparison.
+fn written(most: u64, x: u64) -> u32
+    requires { ⌜ most ≤ x ⌝ }
+    ensures { λ r. ⌜ (r ≡ fork (ltb ceiling most) (λ _. noPlan) (λ _. cut x)) × (r ≤ 1000000001) ⌝ }
 {
-    if x < LONG_CEILING { x as u32 } else { CEILING }
+    if x < LONG_CEILING {
+        x as u32
+    } else if LONG_CEILING < most {
+        NO_PLAN
+    } else {
+        CEILING
+    }
 }
 
 // The price of the action at `at`, by the sheet's kind and the current values, and its dearest successor. An action has a successor, so the
@@ -61,7 +74,7 @@ pub fn price(sheet: &[u8], table: &[u32], at: usize) -> Pricing
     requires { ⌜ Priced (now sheet) (now table) at ⌝ }
     ensures { λ r. ⌜ (r .price ≡ q (problemOf (now (sheet .entry)) .kind) (valueOf (cellsOf (now (sheet .entry))))
         (actionRead (drop at (now (sheet .entry))))) ×
-        (r .price ≤ 1000000000) ×
+        (r .price ≤ 1000000001) ×
         (r .dearest ≡ dearest (valueOf (cellsOf (now (sheet .entry)))) (actionRead (drop at (now (sheet .entry))) .successors)) ⌝ }
 {
     let end = next_action(sheet, at);
@@ -82,7 +95,7 @@ pub fn price(sheet: &[u8], table: &[u32], at: usize) -> Pricing
     }
     let cost = word_to_long(action_cost(sheet, at));
     Pricing {
-        price: cut_off(cost + of_kind(sheet, most, total)),
+        price: written(most, cost + of_kind(sheet, most, total)),
         dearest,
     }
 }

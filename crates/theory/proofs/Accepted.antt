@@ -3,6 +3,7 @@ use Prim.Native.Nat.{ℕ, _+_, _<_, _≤_}
 use mathlib.Core.Path.{_≡_, refl, ap, subst}
 use mathlib.Core.Bool.{Bool, true, false}
 use mathlib.Core.Logic.{_⊎_, inl, inr}
+use mathlib.Core.Option.{some}
 use mathlib.Core.List.{List, [], _∷_}
 use native.Mathlib.Omega.{arith}
 use borrow.Author.Tests.{ltb-true, leb-true, eqb-true, lt-ltb, le-leb, eq-eqb}
@@ -12,14 +13,15 @@ use Rattle.model.proofs.TestLaws.{also-true, true-also, all-true, true-all, eve
 use Rattle.model.specs.Tests.{fork}
 use Rattle.model.specs.Problem.{Action, action, Node, terminal, decision, Problem, Cell, cell, states, nodeAt, actionAt}
 use Rattle.model.specs.Problem.{cellOf, solved, _∈_, here, there}
-use Rattle.model.specs.Limits.{ceiling, maxCost}
+use Rattle.model.specs.Limits.{ceiling, noPlan, maxCost}
 use Rattle.model.specs.Questions.{costsInRange, chosenInRange, cellInRange, question5, apart, ascending, successorsInOrder, question6}
 use Rattle.model.specs.Questions.{valueUnder, question7, allSolved, passedBy, markEarned, question8}
 use Rattle.layout.proofs.Shapes.{node-shaped, action-shaped, ascending-first, ascending-in}
 use Rattle.layout.specs.Shape.{NodeShaped, ChosenShaped}
-use Rattle.theory.specs.Consistent.{Ascends, WellFormed, Sound, Consistent}
+use Rattle.theory.specs.Consistent.{Ascends, endOf, WellFormed, Settles, Sound, Consistent}
 use Rattle.theory.specs.Asked.{Asked}
 use Rattle.theory.proofs.Basics.{clash, lt-or-le}
+use Rattle.theory.proofs.CostLaws.{not-some}
 
 all-solved : (cells : List Cell) (ts : List ℕ) → allSolved cells ts ≡ true → (t : ℕ) → t ∈ ts →
     solved (cellOf cells t) ≡ true
@@ -44,9 +46,6 @@ ascends d low n (t ∷ ts) h =
     let (_, _, more) = ascending-first d low n t ts h in
     (λ u m. omega (arith, ascending-in d (t + d) n ts more u m), ascends d (t + d) n ts more)
 
-chosen-zero : (n : Node) (c : Cell) → ChosenShaped n c → (cost : ℕ) → n ≡ terminal cost → c .chosen ≡ 0
-chosen-zero n c h cost e = subst (λ (m : Node). ChosenShaped m c) e h
-
 module _ (p : Problem) (cells : List Cell) (h : Asked p cells) where
   is-state : (s : ℕ) (acts : List Action) → nodeAt p s ≡ decision acts → s < states p
   is-state s acts e = go (lt-or-le s (states p))
@@ -67,7 +66,6 @@ module _ (p : Problem) (cells : List Cell) (h : Asked p cells) where
   unfolding costsInRange successorsInOrder ceiling
   asked-problem = record {
     starts = h .shaped .start;
-    has-action = λ s acts e. shape s acts e .0 .0;
     capped = λ s cost e. cap s cost e (lt-or-le s (states p));
     forward = λ s i t acts e m. ahead s i t acts e m (lt-or-le i (length acts));
     ordered = λ s i acts e l.
@@ -103,20 +101,15 @@ module _ (p : Problem) (cells : List Cell) (h : Asked p cells) where
       go s (inl l) = record {
         small = leb-true _ _ (range .0);
         mark = leb-true _ _ (range .1 .0);
-        unchosen = λ o. open-chosen (nodeAt p s) refl o (range .1 .1 .0);
-        endless = λ cost e. chosen-zero (nodeAt p s) (cellOf cells s) (h .shaped .chosen s l) cost e;
-        under-cost = λ cost e. leb-true _ _ (rw e at seven);
+        unchosen = λ o. open-chosen (nodeAt p s) refl o;
+        endless = λ x e. ends (nodeAt p s) refl x e .0;
+        under-end = λ x e. ends (nodeAt p s) refl x e .1;
         under-q = λ acts i e l. leb-true _ _ (every-true (length acts) _ (rw e at seven) i l);
-        at-cost = λ cost e sol. eqb-true _ _ (rw (sol, e) at eight);
-        settles = λ acts e sol. let b = all-true _ (rw (sol, e) at eight) in
-            record {
-              exists = ltb-true _ _ (rw (e, sol) at (range .1 .1 .0));
-              priced = eqb-true _ _ (b .0);
-              below = all-solved cells _ (b .1 .0);
-            };
+        at-end = λ x e sol. ends (nodeAt p s) refl x e .2 sol;
+        settles = settled;
       }
         where
-          range : (leb (cellOf cells s .value) ceiling ≡ true) × ((leb (cellOf cells s .mark) 1 ≡ true) ×
+          range : (leb (cellOf cells s .value) noPlan ≡ true) × ((leb (cellOf cells s .mark) 1 ≡ true) ×
               ((chosenInRange (nodeAt p s) (cellOf cells s) ≡ true) × Unit {0}))
           range = all-true _ (five s l .1)
 
@@ -126,20 +119,47 @@ module _ (p : Problem) (cells : List Cell) (h : Asked p cells) where
           eight : fork (solved (cellOf cells s)) (λ _. markEarned p cells s (nodeAt p s)) (λ _. true) ≡ true
           eight = every-true (states p) _ (h .eight) s l
 
-          open-chosen : (n : Node) → nodeAt p s ≡ n → solved (cellOf cells s) ≡ false →
-              chosenInRange n (cellOf cells s) ≡ true →
-              cellOf cells s .chosen ≡ 0
-          open-chosen (terminal cost) e o r = chosen-zero (nodeAt p s) (cellOf cells s) (h .shaped .chosen s l) cost e
-          open-chosen (decision acts) e o r = eqb-true _ _ (rw o at r)
+          shape : (n : Node) → nodeAt p s ≡ n → ChosenShaped n (cellOf cells s)
+          shape n e = subst (λ (m : Node). ChosenShaped m (cellOf cells s)) e (h .shaped .chosen s l)
+
+          chosen : (n : Node) → nodeAt p s ≡ n → chosenInRange n (cellOf cells s) ≡ true
+          chosen n e = rw e at (range .1 .1 .0)
+
+          open-chosen : (n : Node) → nodeAt p s ≡ n → solved (cellOf cells s) ≡ false → cellOf cells s .chosen ≡ 0
+          open-chosen (terminal cost) e o = shape (terminal cost) e
+          open-chosen (decision []) e o = eqb-true _ _ (chosen (decision []) e)
+          open-chosen (decision (a ∷ more)) e o = eqb-true _ _ (rw o at (chosen (decision (a ∷ more)) e))
+
+          ends : (n : Node) → nodeAt p s ≡ n → (x : ℕ) → endOf n ≡ some x →
+              (cellOf cells s .chosen ≡ 0) × (cellOf cells s .value ≤ x) ×
+              (solved (cellOf cells s) ≡ true → cellOf cells s .value ≡ x)
+          ends (terminal cost) e x f =
+              let same : cost ≡ x = cc in
+              rw (← same) (shape (terminal cost) e, leb-true _ _ (rw e at seven), λ sol. eqb-true _ _ (rw (sol, e) at eight))
+          ends (decision []) e x f =
+              let same : noPlan ≡ x = cc in
+              let none-chosen = eqb-true _ _ (chosen (decision []) e) in
+              rw (← same) (none-chosen, leb-true _ _ (range .0), λ sol. eqb-true _ _ (rw (sol, e) at eight))
+          ends (decision (a ∷ more)) e x f = not-some refl f
+
+          settled : (acts : List Action) → nodeAt p s ≡ decision acts → 0 < length acts → solved (cellOf cells s) ≡ true →
+              Settles p cells s (cellOf cells s .chosen) acts
+          settled [] e has sol = absurd (omega arith)
+          settled (a ∷ more) e has sol = let b = all-true _ (rw (sol, e) at eight) in
+              record {
+                exists = ltb-true _ _ (rw sol at (chosen (decision (a ∷ more)) e));
+                priced = eqb-true _ _ (b .0);
+                below = all-solved cells _ (b .1 .0);
+              }
       go s (inr le) = record {
         small = rw blank (omega arith);
         mark = rw blank (omega arith);
         unchosen = rw blank (λ _. refl);
-        endless = rw blank (λ cost e. refl);
-        under-cost = rw blank (λ cost e. omega arith);
+        endless = rw blank (λ x e. refl);
+        under-end = rw blank (λ x e. omega arith);
         under-q = λ acts i e l. rw blank (omega arith);
-        at-cost = rw blank (λ cost e sol. clash sol refl);
-        settles = λ acts e sol. clash sol (ap (λ (c : Cell). solved c) blank);
+        at-end = rw blank (λ x e sol. clash sol refl);
+        settles = λ acts e has sol. clash sol (ap (λ (c : Cell). solved c) blank);
       }
         where
           blank : cellOf cells s ≡ cell 0 0 0
@@ -164,14 +184,15 @@ still-asked p first cells h g = record {
 }
   where
     chosen : (s : ℕ) (n : Node) → nodeAt p s ≡ n → ChosenShaped n (cellOf cells s)
-    chosen s (terminal cost) e = g .sound s .endless cost e
+    chosen s (terminal cost) e = g .sound s .endless cost (rw e)
     chosen s (decision acts) e = tt
 
     range : (s : ℕ) (n : Node) → nodeAt p s ≡ n → (b : Bool) → solved (cellOf cells s) ≡ b →
         chosenInRange n (cellOf cells s) ≡ true
     range s (terminal cost) e b eb = refl
-    range s (decision acts) e true eb = rw eb (lt-ltb _ _ (g .sound s .settles acts e eb .exists))
-    range s (decision acts) e false eb = rw eb (eq-eqb _ _ (g .sound s .unchosen eb))
+    range s (decision []) e b eb = eq-eqb _ _ (g .sound s .endless noPlan (rw e))
+    range s (decision (a ∷ more)) e true eb = rw eb (lt-ltb _ _ (g .sound s .settles (a ∷ more) e (omega arith) eb .exists))
+    range s (decision (a ∷ more)) e false eb = rw eb (eq-eqb _ _ (g .sound s .unchosen eb))
 
     in-range : (s : ℕ) → cellInRange (nodeAt p s) (cellOf cells s) ≡ true
     in-range s =
@@ -179,12 +200,14 @@ still-asked p first cells h g = record {
         true-all _ (le-leb _ _ (h .small), (le-leb _ _ (h .mark), (range s (nodeAt p s) refl (solved (cellOf cells s)) refl, tt)))
 
     under : (s : ℕ) (n : Node) → nodeAt p s ≡ n → valueUnder p cells s n ≡ true
-    under s (terminal cost) e = le-leb _ _ (g .sound s .under-cost cost e)
+    under s (terminal cost) e = le-leb _ _ (g .sound s .under-end cost (rw e))
     under s (decision acts) e = true-every (length acts) _ (λ i l. le-leb _ _ (g .sound s .under-q acts i e l))
 
     earned : (s : ℕ) (n : Node) → nodeAt p s ≡ n → (b : Bool) → solved (cellOf cells s) ≡ b →
         fork b (λ _. markEarned p cells s n) (λ _. true) ≡ true
     earned s n e false eb = refl
-    earned s (terminal cost) e true eb = eq-eqb _ _ (g .sound s .at-cost cost e eb)
-    earned s (decision acts) e true eb =
-        let r = g .sound s .settles acts e eb in true-all _ (eq-eqb _ _ (r .priced), (solved-all cells _ (r .below), tt))
+    earned s (terminal cost) e true eb = eq-eqb _ _ (g .sound s .at-end cost (rw e) eb)
+    earned s (decision []) e true eb = eq-eqb _ _ (g .sound s .at-end noPlan (rw e) eb)
+    earned s (decision (a ∷ more)) e true eb =
+        let r = g .sound s .settles (a ∷ more) e (omega arith) eb in
+        true-all _ (eq-eqb _ _ (r .priced), (solved-all cells _ (r .below), tt))

@@ -1,21 +1,23 @@
--- V* solves the Bellman equation and is its only solution; the cut V* solves the cut equation.
+-- V* solves the Bellman equation and is its only solution; V* as written solves the equation as written.
 use Prim.Native.Nat.{ℕ, zero, suc, _+_, _<_, _≤_}
 use mathlib.Core.Path.{_≡_, refl, sym, ap, _∙_}
+use mathlib.Core.Option.{some}
 use mathlib.Core.List.{List}
 use native.Mathlib.Omega.{arith}
 use Rattle.model.specs.Problem.{Action, Node, terminal, decision, Problem, states, nodeAt, actionAt}
-use Rattle.model.specs.QValue.{cut, q, qFull, least}
+use Rattle.model.specs.Cost.{Cost, amount}
+use Rattle.model.specs.QValue.{q, qFull, leastCost}
 use Rattle.model.specs.Optimal.{solution, bellmanAt, bellman, bellmanCutAt, bellmanCut, optimal}
 use Rattle.theory.specs.Consistent.{WellFormed}
 use Rattle.theory.proofs.Basics.{downward}
-use Rattle.theory.proofs.QValueLaws.{qFull-same, q-cut, least-below, least-attained, least-above, least-same}
+use Rattle.theory.proofs.QValueLaws.{qFull-same, q-amount, least-same, cost-same, cost-amount}
 
 -- a step that looks at states above a state, and below n, only
-abbrev pub Local : ℕ → (ℕ → (ℕ → ℕ) → ℕ) → Type 0
-Local n step = (s : ℕ) (v v′ : ℕ → ℕ) → ((t : ℕ) → s < t → t < n → v t ≡ v′ t) → step s v ≡ step s v′
+abbrev pub Local : ℕ → (ℕ → (ℕ → Cost) → Cost) → Type 0
+Local n step = (s : ℕ) (v v′ : ℕ → Cost) → ((t : ℕ) → s < t → t < n → v t ≡ v′ t) → step s v ≡ step s v′
 
 -- has one solution
-module _ (n : ℕ) (step : ℕ → (ℕ → ℕ) → ℕ) (local : Local n step) where
+module _ (n : ℕ) (step : ℕ → (ℕ → Cost) → Cost) (local : Local n step) where
   any-fuel : (k m s : ℕ) → n ≤ s + suc k → n ≤ s + suc m → solution step k s ≡ solution step m s
   unfolding solution
   any-fuel zero zero s h g = refl
@@ -27,59 +29,46 @@ module _ (n : ℕ) (step : ℕ → (ℕ → ℕ) → ℕ) (local : Local n step)
   unfolding solution
   solves s = any-fuel n (suc n) s (omega arith) (omega arith)
 
-  pub only : (v : ℕ → ℕ) → ((s : ℕ) → v s ≡ step s v) → (s : ℕ) → v s ≡ solution step n s
+  pub only : (v : ℕ → Cost) → ((s : ℕ) → v s ≡ step s v) → (s : ℕ) → v s ≡ solution step n s
   only v h = downward (λ s. v s ≡ solution step n s) n (λ s ih. h s ∙ local s v (solution step n) ih ∙ sym (solves s))
 
 module _ (p : Problem) (wf : WellFormed p) where
-  bellman-local : Local (states p) (bellman p)
+  pub bellman-local : Local (states p) (bellman p)
   unfolding bellmanAt
   bellman-local s v v′ h = go (nodeAt p s) refl
     where
       go : (n : Node) → nodeAt p s ≡ n → bellmanAt (p .kind) v n ≡ bellmanAt (p .kind) v′ n
       go (terminal cost) e = refl
       go (decision acts) e =
-          least-same (qFull (p .kind) v) (qFull (p .kind) v′) acts
+          cost-same (qFull (p .kind) v) (qFull (p .kind) v′) acts
           (λ i l. qFull-same (p .kind) v v′ (actionAt acts i) (λ t m. let f = wf .forward s i t acts e m in h t (f .0) (f .1)))
 
   pub optimal-solves : (s : ℕ) → optimal p s ≡ bellman p s (optimal p)
   unfolding optimal
   optimal-solves = solves (states p) (bellman p) bellman-local
 
-  pub optimal-only : (v : ℕ → ℕ) → ((s : ℕ) → v s ≡ bellman p s v) → (s : ℕ) → v s ≡ optimal p s
+  pub optimal-only : (v : ℕ → Cost) → ((s : ℕ) → v s ≡ bellman p s v) → (s : ℕ) → v s ≡ optimal p s
   unfolding optimal
   optimal-only = only (states p) (bellman p) bellman-local
 
-  pub optimal-terminal : (s cost : ℕ) → nodeAt p s ≡ terminal cost → optimal p s ≡ cost
+  pub optimal-terminal : (s cost : ℕ) → nodeAt p s ≡ terminal cost → optimal p s ≡ some cost
   unfolding bellmanAt
   optimal-terminal s cost e = optimal-solves s ∙ ap (bellmanAt (p .kind) (optimal p)) e
 
   pub optimal-decision : (s : ℕ) (acts : List Action) → nodeAt p s ≡ decision acts →
-      optimal p s ≡ least (qFull (p .kind) (optimal p)) acts
+      optimal p s ≡ leastCost (qFull (p .kind) (optimal p)) acts
   unfolding bellmanAt
   optimal-decision s acts e = optimal-solves s ∙ ap (bellmanAt (p .kind) (optimal p)) e
 
-  cut-decision : (s : ℕ) (acts : List Action) → nodeAt p s ≡ decision acts →
-      cut (optimal p s) ≡ least (q (p .kind) (λ t. cut (optimal p t))) acts
-  cut-decision s acts e =
-      let some = wf .has-action s acts e in
-      let f : Action → ℕ = qFull (p .kind) (optimal p) in
-      let g : Action → ℕ = q (p .kind) (λ t. cut (optimal p t)) in
-      let r = least-attained f acts some in
-      omega (
-        arith,
-        optimal-decision s acts e,
-        r .2,
-        q-cut (p .kind) (optimal p) (actionAt acts (r .0)),
-        least-below g acts (r .0) (r .1),
-        least-above g acts (cut (optimal p s)) some
-            (λ i l. omega (arith, optimal-decision s acts e, q-cut (p .kind) (optimal p) (actionAt acts i), least-below f acts i l)),
-      )
-
-  -- the cut V* solves the cut equation
-  pub optimal-cut : (s : ℕ) → cut (optimal p s) ≡ bellmanCut p s (λ t. cut (optimal p t))
-  unfolding bellmanCutAt
-  optimal-cut s = go (nodeAt p s) refl
+  -- V* as written solves the equation as written
+  pub optimal-amount : (s : ℕ) → amount (optimal p s) ≡ bellmanCut p s (λ t. amount (optimal p t))
+  unfolding bellmanCutAt amount
+  optimal-amount s = go (nodeAt p s) refl
     where
-      go : (n : Node) → nodeAt p s ≡ n → cut (optimal p s) ≡ bellmanCutAt (p .kind) (λ t. cut (optimal p t)) n
-      go (terminal cost) e = ap (λ (x : ℕ). cut x) (optimal-terminal s cost e)
-      go (decision acts) e = cut-decision s acts e
+      go : (n : Node) → nodeAt p s ≡ n → amount (optimal p s) ≡ bellmanCutAt (p .kind) (λ t. amount (optimal p t)) n
+      go (terminal cost) e = ap amount (optimal-terminal s cost e)
+      go (decision acts) e =
+          let f : Action → Cost = qFull (p .kind) (optimal p) in
+          ap amount (optimal-decision s acts e) ∙ cost-amount f acts ∙
+          least-same (λ a. amount (f a)) (q (p .kind) (λ t. amount (optimal p t))) acts
+          (λ i l. sym (q-amount (p .kind) (optimal p) (actionAt acts i)))

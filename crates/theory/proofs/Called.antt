@@ -2,12 +2,12 @@
 use Prim.Native.Nat.{ℕ, zero, suc, _+_, _<_, _≤_}
 use mathlib.Core.Path.{_≡_, refl, _∙_, subst}
 use mathlib.Core.Bool.{Bool, true, false}
-use mathlib.Core.List.{List, _∷_}
+use mathlib.Core.List.{List, [], _∷_}
 use native.Mathlib.Omega.{arith}
 use Rattle.model.specs.Problem.{Node, terminal, decision, Problem, Cell, states, nodeAt, cellOf, valueOf, solved}
 use Rattle.model.specs.Format.{Bytes, write}
 use Rattle.model.specs.Read.{problemOf, cellsOf}
-use Rattle.model.specs.Limits.{ceiling}
+use Rattle.model.specs.Limits.{ceiling, noPlan}
 use Rattle.model.specs.Questions.{question2, questions, refusal, First}
 use Rattle.model.specs.Ldfs.{Passes, work}
 use Rattle.model.specs.Optimal.{sumBelow}
@@ -107,12 +107,14 @@ module _ (s : List ℕ) (p : Problem) (cells : List Cell) (h : Stands s p cells)
     where
       go : (n : Node) → nodeAt p t ≡ n → (b : Bool) → solved (cellOf cells′ t) ≡ b → cellOf cells′ t .chosen < 256
       go n e false o = omega (arith, g .sound t .unchosen o)
-      go (terminal cost) e true o = omega (arith, g .sound t .endless cost e)
-      go (decision acts) e true o =
-          omega (arith, g .sound t .settles acts e o .exists, subst NodeShaped e (node-shaped (p .nodes) (h .asked .shaped .nodes) t) .0 .1)
+      go (terminal cost) e true o = omega (arith, g .sound t .endless cost (rw e))
+      go (decision []) e true o = omega (arith, g .sound t .endless noPlan (rw e))
+      go (decision (a ∷ more)) e true o =
+          let few = subst NodeShaped e (node-shaped (p .nodes) (h .asked .shaped .nodes) t) .0 in
+          omega (arith, g .sound t .settles (a ∷ more) e (omega arith) o .exists, few)
 
   -- consistent cells of the same problem, written, stand for it
-  rewritten : (cells′ : List Cell) → Consistent p cells′ → Stands (write p cells′) p cells′
+  pub rewritten : (cells′ : List Cell) → Consistent p cells′ → Stands (write p cells′) p cells′
   unfolding question2 ceiling
   rewritten cells′ g = record {
     is = refl;

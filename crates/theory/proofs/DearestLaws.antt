@@ -1,16 +1,23 @@
 -- S2.9: the dearest successor is the lowest-numbered of those whose value is largest, and the only such number.
-use Prim.Native.Nat.{ℕ, _<_, _≤_}
-use mathlib.Core.Path.{_≡_, refl}
+use Prim.Native.Nat.{ℕ, _+_, _<_, _≤_}
+use mathlib.Core.Path.{_≡_, refl, ap, _∙_}
+use mathlib.Core.Logic.{_⊎_, inl, inr}
 use mathlib.Core.Bool.{Bool, true, false}
+use mathlib.Core.Option.{some}
 use mathlib.Core.List.{List, [], _∷_}
 use native.Mathlib.Omega.{arith}
 use borrow.Author.Tests.{ltb-true, ltb-false}
 use lib.Dec.{ltb}
 use lib.ListN.{length}
 use Rattle.model.specs.Problem.{worst, Action, decision, Problem, nodeAt, actionAt, _∈_, here, there}
-use Rattle.model.specs.QValue.{join, joined, dearestFrom, dearest, Dearest}
+use Rattle.model.specs.Limits.{ceiling, noPlan}
+use Rattle.model.specs.Cost.{Cost, cut, amount, costOf, both, _⊑_}
+use Rattle.model.specs.QValue.{join, joined, q, dearestFrom, dearest, Dearest}
+use Rattle.layout.proofs.Prices.{cost-within, cost-above}
 use Rattle.theory.specs.Consistent.{Ascends, WellFormed}
-use Rattle.theory.proofs.QValueLaws.{joined-part}
+use Rattle.theory.proofs.Basics.{lt-or-le}
+use Rattle.theory.proofs.CostLaws.{at-most-both, cost-mono, zero-most, larger-within}
+use Rattle.theory.proofs.QValueLaws.{joined-below}
 
 module _ (v : ℕ → ℕ) where
   -- one state alone
@@ -66,8 +73,8 @@ module _ (v : ℕ → ℕ) where
   -- of states that ascend, equal ones allowed, it is that number
   pub dearest-is : (ts : List ℕ) → 0 < length ts → Ascends ts → Dearest v ts (dearest v ts)
   unfolding dearest
-  dearest-is [] some up = absurd (omega arith)
-  dearest-is (t ∷ ts) some up = from-dearest t ts up
+  dearest-is [] has up = absurd (omega arith)
+  dearest-is (t ∷ ts) has up = from-dearest t ts up
 
   module _ {ts : List ℕ} {t : ℕ} (h : Dearest v ts t) where
     -- and there is no other
@@ -76,17 +83,31 @@ module _ (v : ℕ → ℕ) where
         let same : v u ≡ v t = omega (arith, h .largest u (g .among), g .largest t (h .among)) in
         omega (arith, h .lowest u (g .among) same, g .lowest t (h .among) (omega arith))
 
-    -- its value is what a worst sheet's action costs beside its own cost
-    pub dearest-joined : joined worst v ts ≡ v t
+    -- its value is what a worst sheet's action costs beside its own cost, none where it is none
+    pub dearest-joined : joined worst (λ u. costOf (v u)) ts ≡ costOf (v t)
     unfolding join joined
-    dearest-joined = omega (arith, joined-part worst v (h .among), within ts (h .largest))
+    dearest-joined = at-most-both _ _ (within ts (h .largest)) (joined-below worst (λ u. costOf (v u)) (h .among))
       where
-        within : (us : List ℕ) → ((u : ℕ) → u ∈ us → v u ≤ v t) → joined worst v us ≤ v t
-        within [] most = omega arith
-        within (u ∷ us) most = omega (arith, most u here, within us (λ w m. most w (there m)))
+        within : (us : List ℕ) → ((u : ℕ) → u ∈ us → v u ≤ v t) → joined worst (λ u. costOf (v u)) us ⊑ costOf (v t)
+        within [] most = zero-most (costOf (v t))
+        within (u ∷ us) most =
+            larger-within _ _ (costOf (v t)) (cost-mono (v u) (v t) (most u here)) (within us (λ w m. most w (there m)))
+
+-- a worst sheet's price below the ceiling is the action's cost plus the value of its dearest successor
+pub dearest-costs : (v : ℕ → ℕ) (a : Action) {t x : ℕ} → Dearest v (a .successors) t → x ≡ q worst v a → x < ceiling →
+    x ≡ a .cost + v t
+unfolding both amount
+dearest-costs v a {t} {x} h priced low = go (lt-or-le ceiling (v t))
+  where
+    is : x ≡ amount (both _+_ (some (a .cost)) (costOf (v t)))
+    is = priced ∙ ap (λ (c : Cost). amount (both _+_ (some (a .cost)) c)) (dearest-joined v h)
+
+    go : (ceiling < v t) ⊎ (v t ≤ ceiling) → x ≡ a .cost + v t
+    go (inl above) = let none-is : x ≡ noPlan = rw (cost-above (v t) above) at is in absurd (omega arith)
+    go (inr within) = let cut-is : x ≡ cut (a .cost + v t) = rw (cost-within (v t) within) at is in omega arith
 
 -- so it is for every action of a well-formed problem, by any values
 pub action-dearest : (p : Problem) → WellFormed p → (s i : ℕ) (acts : List Action) → nodeAt p s ≡ decision acts →
     i < length acts →
     (v : ℕ → ℕ) → Dearest v (actionAt acts i .successors) (dearest v (actionAt acts i .successors))
-action-dearest p wf s i acts e l v = let (some, up) = wf .ordered s i acts e l in dearest-is v (actionAt acts i .successors) some up
+action-dearest p wf s i acts e l v = let (has, up) = wf .ordered s i acts e l in dearest-is v (actionAt acts i .successors) has up

@@ -3,6 +3,7 @@ use Prim.Native.Nat.{ℕ, zero, suc, _<_, _≤_}
 use mathlib.Core.Path.{_≡_, refl, sym, ap, subst, _∙_}
 use mathlib.Core.Bool.{Bool, true, false}
 use mathlib.Core.Logic.{_⊎_, inl, inr}
+use mathlib.Core.Option.{some}
 use mathlib.Core.List.{List, [], _∷_, _++_}
 use native.Mathlib.Omega.{arith}
 use borrow.Author.Tests.{le-leb}
@@ -11,23 +12,29 @@ use Rattle.model.specs.Tests.{fork}
 use Rattle.model.specs.Problem.{Problem, Cell, cellOf, valueOf, solved}
 use Rattle.model.specs.Format.{Bytes}
 use Rattle.model.specs.Read.{problemOf, cellsOf}
-use Rattle.model.specs.Limits.{maxStates, ceiling, manyRaises}
-use Rattle.model.specs.QValue.{cut}
+use Rattle.model.specs.Limits.{maxStates, ceiling, noPlan, manyRaises}
+use Rattle.model.specs.Cost.{amount, _⊑_}
 use Rattle.model.specs.Questions.{question1, question9, refusal}
-use Rattle.model.specs.Optimal.{gaps}
+use Rattle.model.specs.Optimal.{optimal, gaps}
+use Rattle.model.specs.Policy.{Checked, policyCost}
 use Rattle.model.specs.Report.{outcomeOf, cellsAfter, refused as refusedAnswer, finished, bytesAfter}
 use Rattle.model.specs.Calls.{Call, callOf, callOn, Calls, none, one, left, raisesIn, granted, budgetsIn}
-use Rattle.model.specs.Demands.{Accepted, startCell, startCost, Best, Demand1, refused, worked, Demand2, Demand3}
+use Rattle.model.specs.Demands.{Accepted, startCell, startCost, Best, PlansAbove, PlanBelow, Demand1, refused, worked, Demand2}
+use Rattle.model.specs.Demands.{Demand3}
 use Rattle.theory.proofs.Basics.{clash}
 use Rattle.theory.proofs.Leads.{solved-of}
-use Rattle.theory.proofs.Admissible.{below-optimal, solved-optimal, written-closed, written-costs, value-least}
+use Rattle.theory.specs.Consistent.{WellFormed}
+use Rattle.theory.proofs.CostLaws.{at-most-then, not-some, amount-below, amount-within, amount-above, amount-some, amount-over}
+use Rattle.theory.proofs.CostLaws.{amount-none}
+use Rattle.theory.proofs.PolicyLaws.{optimal-least, greedy, greedy-closed, none-closed, closed-none, closed-least, never-none}
+use Rattle.theory.proofs.Admissible.{below-optimal, solved-optimal, written-closed, written-costs, written-optimal}
 use Rattle.theory.proofs.Work.{Worked}
 use Rattle.theory.proofs.Refusals.{refused-first, refused-below, unrefused-yes}
 use Rattle.theory.proofs.Sheets.{Stands, accepted-stands, stands-problem, stands-cells, stands-accepted, stands-left, unrefused}
 use Rattle.theory.proofs.Called.{workOn, answer-worked, answer-refused, budget-given, call-worked, call-refused}
 use Rattle.theory.proofs.Called.{work-done, worked-stands, call-does, CalledAll, calls-do}
 use Rattle.theory.proofs.Promises.{problem-of, cells-of, raises-gaps, gaps-few}
-use Rattle.theory.proofs.Outcomes.{OutcomeSays, outcome-says}
+use Rattle.theory.proofs.Outcomes.{OutcomeSays, outcome-says, outcome-where}
 
 -- Demand 1, of any bytes, a table of any number of entries and any budget
 pub demand1 : (s : List ℕ) (entries budget : ℕ) → Demand1 s entries budget (callOn s entries budget)
@@ -42,12 +49,40 @@ best-plan : (s : List ℕ) (p : Problem) (cells : List Cell) → Stands s p cell
     solved (cellOf cells (p .start)) ≡ true → valueOf cells (p .start) < ceiling → Best p cells
 best-plan s p cells h e l =
     let wf = problem-of h in let c = cells-of h in
-    let costs = written-costs p wf cells c (p .start) e l in
     record {
-      complete = written-closed p wf cells c (p .start) e;
-      costs = costs;
-      least = λ π closed. omega (arith, costs, value-least p wf cells c (p .start) π closed);
+      complete = written-closed p wf cells c (p .start) e (omega arith);
+      costs = written-costs p wf cells c (p .start) e l;
+      least = λ π closed. rw (written-optimal p wf cells c (p .start) e l) (optimal-least p wf π (p .start));
     }
+
+-- What there is of closed policies from the start, by V* as written (S8.14): none at all, some that all cost the ceiling or more, one
+-- that costs less; and the other way.
+module _ (p : Problem) (wf : WellFormed p) where
+  above-plans : amount (optimal p (p .start)) ≡ ceiling → PlansAbove p
+  above-plans e =
+      let (x, is, le) = amount-within (optimal p (p .start)) (omega arith) in
+      record {
+        plan = greedy p;
+        complete = greedy-closed p wf (p .start) x is .0;
+        every = λ π closed.
+            let up : some ceiling ⊑ optimal p (p .start) = rw is (omega arith) in
+            at-most-then (some ceiling) (optimal p (p .start)) (policyCost p π (p .start)) up (optimal-least p wf π (p .start));
+      }
+
+  plans-above : PlansAbove p → amount (optimal p (p .start)) ≡ ceiling
+  plans-above h =
+      let (x, y, is, costs, le) = closed-least p wf (p .start) (h .plan) (h .complete) in
+      let (closed, pays) = greedy-closed p wf (p .start) x is in
+      let up : ceiling ≤ x = rw pays at (h .every (greedy p) closed) in
+      ap amount is ∙ amount-over x up
+
+  plan-below : PlanBelow p → amount (optimal p (p .start)) < ceiling
+  plan-below h =
+      let (x, y, is, costs, le) = closed-least p wf (p .start) (h .plan) (h .complete) in
+      let same : y ≡ h .cost = cc (h .costs) in
+      let low = h .below in
+      let small = amount-some x (omega arith) in
+      rw is (omega arith)
 
 -- the cells that the work of a call leaves of the sheet s, and the start's among them
 abbrev cellsLeft : List ℕ → ℕ → List Cell
@@ -67,6 +102,10 @@ refused-right s entries budget k e =
       settled = λ z. absurd (omega arith);
       over = λ z. absurd (omega arith);
       stopped = λ z. absurd (omega arith);
+      none = λ z. absurd (omega arith);
+      settled-where = λ z. absurd (omega arith);
+      over-where = λ z. absurd (omega arith);
+      none-where = λ z. absurd (omega arith);
       price-is-value = λ z. absurd (omega arith);
       given = refl;
       raises-within = omega arith;
@@ -87,37 +126,69 @@ module _ (s : List ℕ) (entries budget : ℕ) (e : refusal s entries budget ≡
   done : Worked (problemOf s) (cellsOf s) budget (workOn s budget)
   done = work-done s (problemOf s) (cellsOf s) h budget
 
-  start-optimal : solved (startLeft s budget) ≡ true → startLeft s budget .value ≡ cut (startCost s)
+  start-optimal : solved (startLeft s budget) ≡ true → startLeft s budget .value ≡ amount (startCost s)
   start-optimal = solved-optimal (problemOf s) (problem-of h) (cellsLeft s budget) (cells-of after) (problemOf s .start)
 
-  start-below : startLeft s budget .value ≤ startCost s
-  start-below =
-      let cut-below = below-optimal (problemOf s) (problem-of h) (cellsLeft s budget) (cells-of after) (problemOf s .start) in
-      omega (arith, cut-below)
+  start-below : startLeft s budget .value ≤ amount (startCost s)
+  start-below = below-optimal (problemOf s) (problem-of h) (cellsLeft s budget) (cells-of after) (problemOf s .start)
+
+  -- where the start is settled, what there is of plans tells the number
+  found : solved (startCell s (bytesAfter s entries budget)) ≡ true → solved (startLeft s budget) ≡ true
+  found marked = rw end at marked
 
   worked-right : Demand2 s entries budget (callOf (finished (problemOf s) budget (workOn s budget)) (bytesAfter s entries budget))
   worked-right = record {
     refused-for = λ few. absurd (above few (says .some));
     refused-where = λ i no. clash (unrefused-yes s entries budget e i) no;
     settled = λ n. let o = says .settled n in record {
-      price = omega (arith, o .1, start-optimal (o .0));
+      price =
+          let v = start-optimal (o .0) in rw v (amount-below (startCost s) (omega (arith, o .1)));
       below = o .1;
       marked = rw end (o .0);
       best = rw end (best-plan _ (problemOf s) (cellsLeft s budget) after (o .0) (o .1));
     };
-    over = λ n. let o = says .over n in let v = start-optimal (o .0) in
-        record { price = omega (arith, o .1); above = omega (arith, o .1); marked = rw end (o .0) };
+    over = λ n.
+        let (marked, at) = says .over n in
+        let v = start-optimal marked in
+        let (x, is, le) = amount-within (startCost s) (omega arith) in
+        record {
+          price = at;
+          plans = above-plans (problemOf s) (problem-of h) (omega arith);
+          cost = x;
+          least = is;
+          above = omega arith;
+          marked = rw end marked;
+        };
     stopped = λ n. let o = says .stopped n in record { spent = done .spent o; still-open = rw end o; bound = start-below };
+    none = λ n.
+        let (marked, above) = says .none n in
+        let is = amount-above (startCost s) (omega (arith, start-optimal marked)) in
+        record {
+          price = omega (arith, cells-of after .sound (problemOf s .start) .small);
+          no-plan = none-closed (problemOf s) (problem-of h) (problemOf s .start) is;
+          least = is;
+          marked = rw end marked;
+        };
+    settled-where = λ _ marked plan.
+        let below = plan-below (problemOf s) (problem-of h) plan in
+        outcome-where _ (found marked) .0 (omega (arith, start-optimal (found marked)));
+    over-where = λ _ marked plans.
+        let at = plans-above (problemOf s) (problem-of h) plans in
+        outcome-where _ (found marked) .1 (start-optimal (found marked) ∙ at);
+    none-where = λ _ marked no-plan.
+        let is = ap amount (closed-none (problemOf s) (problem-of h) (problemOf s .start) no-plan) in
+        outcome-where _ (found marked) .2 (omega (arith, start-optimal (found marked), is, amount-none));
     price-is-value = λ _. rw end;
     given = refl;
     raises-within = done .within;
     passes-few = done .few;
   }
     where
-      above : {n : ℕ} → n < 100 → (n ≡ 100) ⊎ ((n ≡ 101) ⊎ (n ≡ 102)) → ⊥
+      above : {n : ℕ} → n < 100 → (n ≡ 100) ⊎ ((n ≡ 101) ⊎ ((n ≡ 102) ⊎ (n ≡ 103))) → ⊥
       above few (inl z) = omega arith
       above few (inr (inl z)) = omega arith
-      above few (inr (inr z)) = omega arith
+      above few (inr (inr (inl z))) = omega arith
+      above few (inr (inr (inr z))) = omega arith
 
 -- Demand 2, of any bytes, a table of any number of entries and any budget
 pub demand2 : (s : List ℕ) → Bytes s → (entries budget : ℕ) → Demand2 s entries budget (callOn s entries budget)
@@ -128,16 +199,6 @@ demand2 s bytes entries budget = go (refusal s entries budget) refl
         rw (call-worked s entries budget e) (worked-right s entries budget e (accepted-stands s bytes (unrefused s entries budget e)))
     go (suc k) e = rw (call-refused s entries budget k e) (refused-right s entries budget k e)
 
--- a price is at most the ceiling
-pub price-small : (s : List ℕ) → Bytes s → (entries budget : ℕ) → callOn s entries budget .price ≤ ceiling
-price-small s bytes entries budget = go (refusal s entries budget) refl
-  where
-    go : (n : ℕ) → refusal s entries budget ≡ n → callOn s entries budget .price ≤ ceiling
-    go zero e =
-        rw (answer-worked s entries budget e)
-        (cells-of (after s entries budget e (accepted-stands s bytes (unrefused s entries budget e))) .sound (problemOf s .start) .small)
-    go (suc k) e = rw (answer-refused s entries budget k e) (omega arith)
-
 -- a number from 100 on is no refusal
 worked-number : (s : List ℕ) (entries budget : ℕ) → 100 ≤ callOn s entries budget .number → refusal s entries budget ≡ 0
 worked-number s entries budget n = go (refusal s entries budget) refl
@@ -147,6 +208,24 @@ worked-number s entries budget n = go (refusal s entries budget) refl
     go (suc k) e =
         let same = ap (λ (c : Call). c .number) (call-refused s entries budget k e) in
         absurd (omega (arith, same, refused-below s entries budget k e))
+
+-- S8.15: where every decision has an action, no call ends none
+pub never-ends-none : (s : List ℕ) → Bytes s → Checked (problemOf s) → (entries budget : ℕ) →
+    callOn s entries budget .number ≡ 103 → ⊥
+never-ends-none s bytes checked entries budget e =
+    let wf = problem-of (accepted-stands s bytes (unrefused s entries budget (worked-number s entries budget (omega arith)))) in
+    let (x, is) = never-none (problemOf s) wf checked (problemOf s .start) in
+    not-some (demand2 s bytes entries budget .none e .least) is
+
+-- a price is at most 1,000,000,001
+pub price-small : (s : List ℕ) → Bytes s → (entries budget : ℕ) → callOn s entries budget .price ≤ noPlan
+price-small s bytes entries budget = go (refusal s entries budget) refl
+  where
+    go : (n : ℕ) → refusal s entries budget ≡ n → callOn s entries budget .price ≤ noPlan
+    go zero e =
+        rw (answer-worked s entries budget e)
+        (cells-of (after s entries budget e (accepted-stands s bytes (unrefused s entries budget e))) .sound (problemOf s .start) .small)
+    go (suc k) e = rw (answer-refused s entries budget k e) (omega arith)
 
 -- the sheet of such a call is accepted
 pub worked-accepted : (s : List ℕ) → Bytes s → (entries budget : ℕ) → 100 ≤ callOn s entries budget .number → Accepted s

@@ -1,34 +1,37 @@
 -- Not vacuous: sheet A, by its literal bytes, is accepted, and a list of calls on it, two of them refused, ends settled at 500; sheets C
--- and D show what a looser order of findings keeps and what a repeat costs.
-use Prim.Native.Nat.{ℕ, _+_, _*_, _<_, _≤_}
+-- and D show what a looser order of findings keeps and what a repeat costs; on sheet H, where no check leads to an ending, calls end none,
+-- and on sheet G, where one does, settled.
+use Prim.Native.Nat.{ℕ, _+_, _<_, _≤_}
 use mathlib.Core.Path.{_≡_, refl}
 use mathlib.Core.Bool.{true}
+use mathlib.Core.Option.{none as noCost, some}
 use mathlib.Core.Logic.{_⊎_, inl, inr}
 use mathlib.Core.List.{List, [], _∷_, map}
 use native.Mathlib.Omega.{arith}
 use borrow.Author.Tests.{ltb-true}
-use lib.Dec.{lit<, ltb}
+use lib.Dec.{lit<, lit≤, ltb}
 use lib.ListN.{length, getD, List·getD-eq-default}
 use Rattle.model.proofs.TestLaws.{every-true}
 use Rattle.model.specs.Tests.{every}
-use Rattle.model.specs.Problem.{action, valueOf}
+use Rattle.model.specs.Problem.{worst, action, valueOf}
 use Rattle.model.specs.Limits.{maxStates}
 use Rattle.model.specs.Format.{Bytes}
 use Rattle.model.specs.Read.{problemOf, cellsOf}
-use Rattle.model.specs.QValue.{cut}
+use Rattle.model.specs.Cost.{amount, both, times}
 use Rattle.model.specs.Questions.{refusal, refusalUnder}
-use Rattle.model.specs.Earlier.{strictRefusal}
+use Rattle.model.specs.Earlier.{strictRefusal, checkedRefusal}
 use Rattle.model.specs.Optimal.{optimal}
 use Rattle.model.proofs.Computing.{computing}
 use Rattle.model.specs.Report.{bytesAfter, largest}
 use Rattle.model.specs.Calls.{Call, callOn, Calls, none, one, left}
-use Rattle.model.specs.Demands.{Accepted, Best, Demand3, Raised, Loosened}
-use Rattle.model.specs.Rows.{sheetA, sheetC, sheetD}
+use Rattle.model.specs.Demands.{Accepted, startCost, Best, NoPlan, NoneAt, Demand3, Raised, Loosened, Withdrawn}
+use Rattle.model.specs.Rows.{sheetA, sheetC, sheetD, sheetG, sheetH}
 use Rattle.theory.proofs.Basics.{lt-or-le}
 use Rattle.theory.proofs.Limits.{accepted-before, limit-raised}
 use Rattle.theory.proofs.Loosened.{order-loosened}
+use Rattle.theory.proofs.Withdrawn.{checks-withdrawn}
 use Rattle.theory.proofs.Promises.{settled-pays}
-use Rattle.theory.proofs.Demands.{demand3}
+use Rattle.theory.proofs.Demands.{demand2, demand3}
 
 -- budget 2, then a table that is too short, then budget 0, then the largest
 abbrev worked : List ℕ
@@ -93,9 +96,37 @@ pub accepted-D : Accepted workedD
 unfolding computing
 accepted-D = record { bytes = tested workedD refl; yes = refl }
 
-pub pays-D : (valueOf (cellsOf workedD) 0 ≡ 160) × (160 ≡ cut (100 + 2 * optimal (problemOf workedD) 1))
+pub pays-D : (valueOf (cellsOf workedD) 0 ≡ 160) × (160 ≡ amount (both _+_ (some 100) (times 2 (optimal (problemOf workedD) 1))))
 unfolding computing
-pays-D = (refl, settled-pays workedD accepted-D refl 0 0 2 1 (action 100 (1 ∷ 1 ∷ []) ∷ []) refl refl refl refl)
+pays-D = (refl, settled-pays workedD accepted-D refl 0 0 2 1 (action 100 (1 ∷ 1 ∷ []) ∷ []) refl (lit< tt) (lit< tt) refl refl refl)
+
+-- Sheet H comes out none, which says that it has no complete plan; sheet G, which has one, does not, although one of its checks leads to
+-- a junction without checks. V* of their starts is none, and 130.
+pub none-H : NoneAt sheetH (callOn sheetH maxStates largest)
+unfolding computing
+none-H = demand2 sheetH (tested sheetH refl) maxStates largest .none refl
+
+pub least-H : startCost sheetH ≡ noCost
+least-H = none-H .least
+
+pub plan-G : NoPlan (problemOf (sheetG worst)) → ⊥
+unfolding computing
+plan-G no-plan =
+    let z = demand2 (sheetG worst) (tested (sheetG worst) refl) maxStates largest .none-where (lit≤ tt) refl no-plan in
+    absurd (omega arith)
+
+pub least-G : startCost (sheetG worst) ≡ some 130
+unfolding computing
+least-G = demand2 (sheetG worst) (tested (sheetG worst) refl) maxStates largest .settled refl .price
+
+-- Sheet H was refused when every junction had to have a check; sheet A was accepted then, and keeps what it had.
+pub then-H : (checkedRefusal maxStates sheetH maxStates largest ≡ 4) × (refusal sheetH maxStates largest ≡ 0)
+unfolding computing
+then-H = (refl, refl)
+
+pub withdrawn-A : Withdrawn maxStates sheetA
+unfolding computing
+withdrawn-A = checks-withdrawn maxStates (omega arith) sheetA (tested sheetA refl) refl
 
 -- A limit of 4 accepts sheet A, which has as many stages, and one of 3 refuses it; so a raised limit speaks of it
 pub limits-A : (refusalUnder 3 sheetA 3 largest ≡ 3) × (refusalUnder 4 sheetA 4 largest ≡ 0)

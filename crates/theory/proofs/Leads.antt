@@ -3,18 +3,19 @@ use Prim.Native.Nat.{ℕ, suc, _+_, _<_, _≤_}
 use mathlib.Core.Path.{_≡_, refl, sym, ap, _∙_}
 use mathlib.Core.Bool.{true, false}
 use mathlib.Core.Logic.{_⊎_, inl, inr, _≢_}
+use mathlib.Core.Option.{some}
 use mathlib.Core.List.{List}
 use native.Mathlib.Omega.{arith}
 use lib.ListN.{length, set, length-set}
 use lib.Seq.{getD-set-same, getD-set-other}
-use Rattle.model.specs.Problem.{Action, terminal, decision, Problem, Cell, cell, states, nodeAt, actionAt, cellOf, valueOf, solved, _∈_}
-use Rattle.model.specs.Limits.{ceiling}
+use Rattle.model.specs.Problem.{Action, decision, Problem, Cell, cell, states, nodeAt, actionAt, cellOf, valueOf, solved}
+use Rattle.model.specs.Limits.{noPlan}
 use Rattle.model.specs.QValue.{q}
-use Rattle.model.specs.Ldfs.{Search, cellAt, valueAt, solvedAt, priceAt, raised, marked}
+use Rattle.model.specs.Ldfs.{Search, cellAt, valueAt, solvedAt, raised, marked}
 use Rattle.model.specs.Optimal.{sumBelow}
-use Rattle.theory.specs.Consistent.{Sound, Consistent}
+use Rattle.theory.specs.Consistent.{endOf, Settles, Sound, Consistent}
 use Rattle.theory.proofs.Basics.{clash, same-or-not, sum-mono, sum-strict}
-use Rattle.theory.proofs.QValueLaws.{q-mono, qFull-same}
+use Rattle.theory.proofs.QValueLaws.{q-mono, q-same}
 
 -- consistent cells, and no more raises than the budget
 pub record Ready (p : Problem) (budget : ℕ) (w : Search) : Type 0 where
@@ -77,6 +78,18 @@ module _ {p : Problem} {budget : ℕ} where
     quiet = a .quiet;
   }
 
+-- an action that settles a state of the same value still does where solved cells stay
+keep-settles : (p : Problem) (cells cells′ : List Cell) (s i : ℕ) (acts : List Action) → valueOf cells′ s ≡ valueOf cells s →
+    ((t : ℕ) → solved (cellOf cells t) ≡ true → cellOf cells′ t ≡ cellOf cells t) → Settles p cells s i acts →
+    Settles p cells′ s i acts
+keep-settles p cells cells′ s i acts same keeps h = record {
+  exists = h .exists;
+  priced =
+      let a = actionAt acts i in
+      same ∙ h .priced ∙ q-same (p .kind) (valueOf cells) (valueOf cells′) a (λ t m. value-of (sym (keeps t (h .below t m))));
+  below = λ t m. solved-of (keeps t (h .below t m)) ∙ h .below t m;
+}
+
 -- a state whose own cell stays is still sound when values rise and solved cells stay
 keep-sound : (p : Problem) (cells cells′ : List Cell) (u : ℕ) → cellOf cells′ u ≡ cellOf cells u →
     ((t : ℕ) → valueOf cells t ≤ valueOf cells′ t) →
@@ -86,19 +99,14 @@ keep-sound p cells cells′ u e rises keeps h = record {
   mark = rw e (h .mark);
   unchosen = rw e (h .unchosen);
   endless = rw e (h .endless);
-  under-cost = rw e (h .under-cost);
+  under-end = rw e (h .under-end);
   under-q = λ acts i n l.
       let dearer = q-mono (p .kind) (valueOf cells) (valueOf cells′) (actionAt acts i) (λ t m. rises t) in
       omega (arith, value-of e, h .under-q acts i n l, dearer);
-  at-cost = rw e (h .at-cost);
-  settles = λ acts n sol. let g = h .settles acts n (solved-of (sym e) ∙ sol) in record {
-    exists = rw e (g .exists);
-    priced =
-        let a = actionAt acts (cellOf cells u .chosen) in
-        let same = qFull-same (p .kind) (valueOf cells) (valueOf cells′) a (λ t m. value-of (sym (keeps t (g .below t m)))) in
-        rw e (omega (arith, g .priced, same));
-    below = rw e (λ t m. solved-of (keeps t (g .below t m)) ∙ g .below t m);
-  };
+  at-end = rw e (h .at-end);
+  settles = λ acts n has sol.
+      let before = h .settles acts n has (solved-of (sym e) ∙ sol) in
+      rw (ap (λ (c : Cell). c .chosen) e) (keep-settles p cells cells′ u (cellOf cells u .chosen) acts (value-of e) keeps before);
 }
 
 -- the cell c put at an open state s, whose value does not fall, with r raises made by then
@@ -145,8 +153,8 @@ module _ (p : Problem) (budget s r : ℕ) (w : Search) (c : Cell) (ready : Ready
 
 -- a value that a state may rise to
 pub record Fits (p : Problem) (cells : List Cell) (s x : ℕ) : Type 0 where
-  pub small : x ≤ ceiling
-  pub under-cost : (cost : ℕ) → nodeAt p s ≡ terminal cost → x ≤ cost
+  pub small : x ≤ noPlan
+  pub under-end : (y : ℕ) → endOf (nodeAt p s) ≡ some y → x ≤ y
   pub under-q : (acts : List Action) (i : ℕ) → nodeAt p s ≡ decision acts → i < length acts →
       x ≤ q (p .kind) (valueOf cells) (actionAt acts i)
 
@@ -167,12 +175,12 @@ module _ (p : Problem) (budget s x : ℕ) (w : Search) (ready : Ready p budget w
       mark = rw raised-cell (h .mark);
       unchosen = rw raised-cell (h .unchosen);
       endless = rw raised-cell (h .endless);
-      under-cost = rw raised-cell (fits .under-cost);
+      under-end = rw raised-cell (fits .under-end);
       under-q = λ acts i n l.
           let dearer = q-mono (p .kind) (valueAt w) (valueAt (raised s x w)) (actionAt acts i) (λ t m. rises t) in
           omega (arith, value-of raised-cell, fits .under-q acts i n l, dearer);
-      at-cost = rw raised-cell (λ cost n sol. clash sol isOpen);
-      settles = λ acts n sol. clash sol (solved-of raised-cell ∙ isOpen);
+      at-end = rw raised-cell (λ y n sol. clash sol isOpen);
+      settles = λ acts n has sol. clash sol (solved-of raised-cell ∙ isOpen);
     }
 
     pub raise-leads : w .raises < budget → Leads p budget s w (raised s x w)
@@ -183,11 +191,8 @@ module _ (p : Problem) (budget s x : ℕ) (w : Search) (ready : Ready p budget w
 
 -- a state that may be marked, with action i chosen
 pub record Done (p : Problem) (w : Search) (s i : ℕ) : Type 0 where
-  pub at-cost : (cost : ℕ) → nodeAt p s ≡ terminal cost → (i ≡ 0) × (valueAt w s ≡ cost)
-  pub exists : (acts : List Action) → nodeAt p s ≡ decision acts → i < length acts
-  pub priced : (acts : List Action) → nodeAt p s ≡ decision acts → valueAt w s ≡ priceAt p w (actionAt acts i)
-  pub solves : (acts : List Action) (t : ℕ) → nodeAt p s ≡ decision acts → t ∈ actionAt acts i .successors →
-      solvedAt w t ≡ true
+  pub at-end : (y : ℕ) → endOf (nodeAt p s) ≡ some y → (i ≡ 0) × (valueAt w s ≡ y)
+  pub passed : (acts : List Action) → nodeAt p s ≡ decision acts → 0 < length acts → Settles p (w .cells) s i acts
 
 module _ (p : Problem) (budget s i : ℕ) (w : Search) (ready : Ready p budget w) (state : s < states p) (isOpen : solvedAt w s ≡ false)
     (done : Done p w s i) where
@@ -209,21 +214,16 @@ module _ (p : Problem) (budget s i : ℕ) (w : Search) (ready : Ready p budget w
     small = rw marked-cell (h .small);
     mark = rw marked-cell (omega arith);
     unchosen = rw marked-cell (λ sol. clash refl sol);
-    endless = rw marked-cell (λ cost n. done .at-cost cost n .0);
-    under-cost = rw marked-cell (h .under-cost);
+    endless = rw marked-cell (λ y n. done .at-end y n .0);
+    under-end = rw marked-cell (h .under-end);
     under-q = λ acts j n l.
         let dearer = q-mono (p .kind) (valueAt w) (valueAt (marked s i w)) (actionAt acts j) (λ t m. omega (arith, marked-values t)) in
         omega (arith, marked-values s, h .under-q acts j n l, dearer);
-    at-cost = rw marked-cell (λ cost n sol. done .at-cost cost n .1);
-    settles = λ acts n sol. record {
-      exists = rw marked-cell (done .exists acts n);
-      priced =
-          let same = qFull-same (p .kind) (valueAt w) (valueAt (marked s i w)) (actionAt acts i) (λ t m. sym (marked-values t)) in
-          rw marked-cell (omega (arith, done .priced acts n, same));
-      below = rw marked-cell (λ t m.
-          let e = done .solves acts t n m in
-          solved-of (put-keeps p budget s (w .raises) w d ready state isOpen (omega arith) t e) ∙ e);
-    };
+    at-end = rw marked-cell (λ y n sol. done .at-end y n .1);
+    settles = λ acts n has sol.
+        let keeps = put-keeps p budget s (w .raises) w d ready state isOpen (omega arith) in
+        rw (ap (λ (c : Cell). c .chosen) marked-cell)
+        (keep-settles p (w .cells) (marked s i w .cells) s i acts (marked-values s) keeps (done .passed acts n has));
   }
 
   pub mark-leads : Leads p budget s w (marked s i w) × (solvedAt (marked s i w) s ≡ true)

@@ -1,4 +1,5 @@
 pub mod Basics
+pub mod CostLaws
 pub mod QValueLaws
 pub mod DearestLaws
 pub mod Bellman
@@ -9,6 +10,7 @@ pub mod Facts
 pub mod Leads
 pub mod Visits
 pub mod Work
+pub mod Numbers
 pub mod Accepted
 pub mod Refusals
 pub mod LimitLaws
@@ -18,6 +20,7 @@ pub mod Loosened
 pub mod Called
 pub mod Outcomes
 pub mod Promises
+pub mod Withdrawn
 pub mod Demands
 pub mod Example
 pub mod Turns

@@ -8,7 +8,7 @@ use mathlib.Core.List.{List, [], _∷_, _++_}
 use native.Mathlib.Omega.{arith}
 use borrow.Author.Tests.{le-leb, lt-leb, eq-eqb, eqb-true}
 use Rattle.model.specs.Tests.{fork}
-use Rattle.model.specs.Limits.{maxStates, ceiling, manyRaises}
+use Rattle.model.specs.Limits.{maxStates, ceiling, noPlan, manyRaises}
 use Rattle.model.specs.Questions.{question1, question3, question9, question, sheetQuestionsUnder, firstNo, refusalUnder, acceptedUnder}
 use Rattle.model.proofs.QuestionLaws.{AllYes, none-no, all-yes, first-from}
 use Rattle.layout.proofs.Heads.{head-raised}
@@ -52,7 +52,7 @@ unfolding refusalUnder firstNo question1
 room-yes limit s entries budget h =
     rw (le-leb limit entries h) (first-from 2 (sheetQuestionsUnder limit s ++ (question 9 (λ _. question9 budget) ∷ [])) refl)
 
--- S7.3, S8.8: values at the ceiling, one for each of as many stages as a sheet may have, add up to fewer than `manyRaises`
-pub values-few : (n : ℕ) → n ≤ maxStates → n * ceiling < manyRaises
+-- S7.3, S8.8: values of 1,000,000,001, one for each of as many stages as a sheet may have, add up to fewer than `manyRaises`
+pub values-few : (n : ℕ) → n ≤ maxStates → n * noPlan < manyRaises
 unfolding ceiling
 values-few n h = omega arith

@@ -9,15 +9,13 @@ use lib.ListN.{length}
 use Rattle.model.proofs.TestLaws.{every-true, true-every}
 use Rattle.model.specs.Problem.{Kind, worst, whole, Node, terminal, decision, Problem}
 use Rattle.model.specs.Read.{problemOf}
-use Rattle.model.specs.Limits.{maxStates}
 use Rattle.model.specs.Questions.{apart, ascending, successorsInOrder, inOrder, question6, sheetQuestionsUnder, firstNo, refusalUnder}
 use Rattle.model.specs.Questions.{acceptedUnder}
 use Rattle.model.specs.Earlier.{instead, strictOrder, strictRefusal, strictlyAccepted}
 use Rattle.model.specs.Report.{answerUnder, bytesUnder, tableUnder}
-use Rattle.model.specs.Demands.{Raised, Loosened}
+use Rattle.model.specs.Demands.{Loosened}
 use Rattle.model.proofs.QuestionLaws.{none-no}
 use Rattle.layout.proofs.Shapes.{ascending-none, ascending-first, ascending-put}
-use Rattle.theory.proofs.Limits.{accepted-before}
 
 -- what is in order by larger steps is so by smaller ones
 module _ (d e n : ℕ) (le : e ≤ d) where
@@ -40,7 +38,7 @@ apart-few worst = omega arith
 apart-few whole = omega arith
 
 -- question 6 as it was, and as it is
-strict-in-order : (p : Problem) → inOrder 1 p ≡ true → question6 p ≡ true
+pub strict-in-order : (p : Problem) → inOrder 1 p ≡ true → question6 p ≡ true
 unfolding question6
 strict-in-order p h =
     true-every _ _ (λ s l. successors-looser 1 (apart (p .kind)) _ (apart-few (p .kind)) s _ (every-true _ _ h s l))
@@ -70,7 +68,3 @@ module _ (limit : ℕ) (s : List ℕ) (acc : strictlyAccepted limit s ≡ true) 
     same-bytes = λ entries budget. rw (same-refusal limit s strict-six entries budget);
     same-table = λ t budget. rw (same-refusal limit s strict-six (length t) budget);
   }
-
--- sheets of the first version, which had both the smaller limit and the stricter order
-pub first-version : (s : List ℕ) → strictlyAccepted 1024 s ≡ true → Loosened 1024 s × Raised 1024 maxStates s
-first-version s acc = let kept = order-loosened 1024 s acc in (kept, accepted-before s (kept .still-accepted))

@@ -2,27 +2,30 @@
 use Prim.Native.Nat.{ℕ, zero, suc, _+_, _*_, _<_, _≤_}
 use mathlib.Core.Path.{_≡_, refl, _∙_}
 use mathlib.Core.Bool.{true}
-use mathlib.Core.Option.{some}
+use mathlib.Core.Option.{none, some}
 use mathlib.Core.List.{List}
 use native.Mathlib.Omega.{arith}
 use lib.ListN.{length, replicate}
 use Rattle.model.specs.Problem.{whole, Action, decision, Problem, Cell, states, nodeAt, actionAt, cellOf, valueOf, solved}
 use Rattle.model.specs.Format.{Bytes}
 use Rattle.model.specs.Read.{problemOf, cellsOf}
-use Rattle.model.specs.Limits.{maxStates, ceiling, manyRaises}
-use Rattle.model.specs.QValue.{cut, qFull, q, dearest, Dearest}
+use Rattle.model.specs.Limits.{maxStates, ceiling, noPlan, manyRaises}
+use Rattle.model.specs.Cost.{Cost, amount, both, times}
+use Rattle.model.specs.QValue.{qFull, q, dearest, Dearest}
 use Rattle.model.specs.Questions.{refusal}
 use Rattle.model.specs.Earlier.{strictlyAccepted}
 use Rattle.model.specs.Optimal.{bellman, bellmanCut, optimal, sumBelow, gap, gaps}
-use Rattle.model.specs.Policy.{Policy, Closed, policyCost, written}
+use Rattle.model.specs.Policy.{Policy, Closed, Checked, policyCost, written}
 use Rattle.model.specs.Report.{answerTo, bytesAfter}
 use Rattle.model.specs.Demands.{Accepted}
 use Rattle.theory.specs.Consistent.{WellFormed, Consistent}
 use Rattle.theory.proofs.Basics.{sum-gap, sum-bounded}
 use Rattle.theory.proofs.LimitLaws.{values-few}
 use Rattle.theory.proofs.DearestLaws.{action-dearest, dearest-only}
-use Rattle.theory.proofs.Bellman.{optimal-solves, optimal-only, optimal-cut}
-use Rattle.theory.proofs.PolicyLaws.{optimal-least, greedy, greedy-closed, greedy-attains}
+use Rattle.theory.proofs.CostLaws.{amount-small}
+use Rattle.theory.proofs.Bellman.{optimal-solves, optimal-only, optimal-amount}
+use Rattle.theory.proofs.PolicyLaws.{closed-costs, costs-closed, greedy, greedy-closed, none-closed, closed-none, closed-least}
+use Rattle.theory.proofs.PolicyLaws.{never-none}
 use Rattle.theory.proofs.Admissible.{monotone, below-optimal, solved-cost}
 use Rattle.theory.proofs.Repeats.{only-counts, only-priced, policy-pays, solved-pays}
 use Rattle.theory.proofs.Loosened.{same-accepted, strict-six}
@@ -38,9 +41,9 @@ module _ {s : List ℕ} {p : Problem} {cells : List Cell} (h : Stands s p cells)
   pub cells-of : Consistent p cells
   cells-of = asked-cells p cells (h .asked)
 
-  -- gaps and values make up the cut V*
-  gaps-total : gaps p cells + sumBelow (states p) (valueOf cells) ≡ sumBelow (states p) (λ t. cut (optimal p t))
-  gaps-total = sum-gap (valueOf cells) (λ t. cut (optimal p t)) (below-optimal p problem-of cells cells-of) (states p)
+  -- gaps and values make up V* as written
+  gaps-total : gaps p cells + sumBelow (states p) (valueOf cells) ≡ sumBelow (states p) (λ t. amount (optimal p t))
+  gaps-total = sum-gap (valueOf cells) (λ t. amount (optimal p t)) (below-optimal p problem-of cells cells-of) (states p)
 
 -- the cells that a sheet stands for are those that its bytes read as
 pub raises-gaps : (s s′ : List ℕ) (p : Problem) (cells cells′ : List Cell) (n : ℕ) → Stands s p cells →
@@ -55,33 +58,55 @@ module _ (s : List ℕ) (acc : Accepted s) where
   wf : WellFormed (problemOf s)
   wf = problem-of stands
 
-  -- 1: V* solves the Bellman equation and is its only solution; the cut V* solves the cut equation
+  -- 1: V* solves the Bellman equation and is its only solution; V* as written solves the equation as written
   pub bellman-holds : (t : ℕ) → optimal (problemOf s) t ≡ bellman (problemOf s) t (optimal (problemOf s))
   bellman-holds = optimal-solves (problemOf s) wf
 
-  pub bellman-only : (v : ℕ → ℕ) → ((t : ℕ) → v t ≡ bellman (problemOf s) t v) → (t : ℕ) →
+  pub bellman-only : (v : ℕ → Cost) → ((t : ℕ) → v t ≡ bellman (problemOf s) t v) → (t : ℕ) →
       v t ≡ optimal (problemOf s) t
   bellman-only = optimal-only (problemOf s) wf
 
-  pub bellman-cut : (t : ℕ) → cut (optimal (problemOf s) t) ≡ bellmanCut (problemOf s) t (λ u. cut (optimal (problemOf s) u))
-  bellman-cut = optimal-cut (problemOf s) wf
+  pub bellman-cut : (t : ℕ) →
+      amount (optimal (problemOf s) t) ≡ bellmanCut (problemOf s) t (λ u. amount (optimal (problemOf s) u))
+  bellman-cut = optimal-amount (problemOf s) wf
 
-  -- 2: from every state some closed policy costs exactly V*, and every closed policy from it costs at least V*
-  pub some-policy : (t : ℕ) → (π : Policy) × Closed (problemOf s) π t × (policyCost (problemOf s) π t ≡ optimal (problemOf s) t)
-  some-policy t = (greedy (problemOf s), greedy-closed (problemOf s) wf t, greedy-attains (problemOf s) wf t)
+  -- 2, S2.6: V* of a state is none exactly where no policy from it is closed; where it is some number, some closed policy costs exactly
+  -- that, and every closed policy costs some number, at least that
+  pub none-for : (t : ℕ) → optimal (problemOf s) t ≡ none → (π : Policy) → Closed (problemOf s) π t → ⊥
+  none-for = none-closed (problemOf s) wf
 
-  pub every-policy : (π : Policy) (t : ℕ) → Closed (problemOf s) π t → optimal (problemOf s) t ≤ policyCost (problemOf s) π t
-  every-policy = optimal-least (problemOf s) wf
+  pub none-where : (t : ℕ) → ((π : Policy) → Closed (problemOf s) π t → ⊥) → optimal (problemOf s) t ≡ none
+  none-where = closed-none (problemOf s) wf
 
-  -- 3: each value is at most the cut V*, admissible and monotone; a solved state's value is the cut cost of the policy written at it
-  pub values-admissible : (t : ℕ) → valueOf (cellsOf s) t ≤ cut (optimal (problemOf s) t)
+  pub some-policy : (t x : ℕ) → optimal (problemOf s) t ≡ some x →
+      (π : Policy) × Closed (problemOf s) π t × (policyCost (problemOf s) π t ≡ some x)
+  some-policy t x e = let (closed, costs) = greedy-closed (problemOf s) wf t x e in (greedy (problemOf s), closed, costs)
+
+  pub every-policy : (π : Policy) (t : ℕ) → Closed (problemOf s) π t →
+      (x y : ℕ) × (optimal (problemOf s) t ≡ some x) × (policyCost (problemOf s) π t ≡ some y) × (x ≤ y)
+  every-policy π t = closed-least (problemOf s) wf t π
+
+  -- S2.3: a policy costs some number exactly where it is closed
+  pub closed-number : (π : Policy) (t : ℕ) → Closed (problemOf s) π t → (y : ℕ) × (policyCost (problemOf s) π t ≡ some y)
+  closed-number = closed-costs (problemOf s) wf
+
+  pub number-closed : (π : Policy) (t y : ℕ) → policyCost (problemOf s) π t ≡ some y → Closed (problemOf s) π t
+  number-closed = costs-closed (problemOf s) wf
+
+  -- S8.15: where every decision has an action, V* is some number everywhere
+  pub checked-number : Checked (problemOf s) → (t : ℕ) → (x : ℕ) × (optimal (problemOf s) t ≡ some x)
+  checked-number = never-none (problemOf s) wf
+
+  -- 3: each value is at most V* as written, admissible and monotone; a solved state's value is what the policy written at it costs, as
+  -- written
+  pub values-admissible : (t : ℕ) → valueOf (cellsOf s) t ≤ amount (optimal (problemOf s) t)
   values-admissible = below-optimal (problemOf s) wf (cellsOf s) (cells-of stands)
 
   pub values-monotone : (t : ℕ) → valueOf (cellsOf s) t ≤ bellmanCut (problemOf s) t (valueOf (cellsOf s))
   values-monotone = monotone (problemOf s) wf (cellsOf s) (cells-of stands)
 
   pub solved-written : (t : ℕ) → solved (cellOf (cellsOf s) t) ≡ true →
-      valueOf (cellsOf s) t ≡ cut (policyCost (problemOf s) (written (cellsOf s)) t)
+      valueOf (cellsOf s) t ≡ amount (policyCost (problemOf s) (written (cellsOf s)) t)
   solved-written = solved-cost (problemOf s) wf (cellsOf s) (cells-of stands)
 
   -- 4: the dearest successor of an action, by any values, is the lowest-numbered of those whose value is largest, and no other number is
@@ -92,29 +117,32 @@ module _ (s : List ℕ) (acc : Accepted s) where
   dearest-of t i acts e l v =
       let is = action-dearest (problemOf s) wf t i acts e l v in (is, dearest-only v is)
 
-  -- 5: S2.10, where the sheet is whole and action i of decision t lists the state u n times and no other: it costs its cost plus n times
-  -- what u costs, by V* and by any values; that is its price, up to the ceiling; a policy that takes it costs so much; and where the
-  -- decision is solved by it, that is the decision's value, by V* and cut
+  -- 5: S2.10, where the sheet is whole and action i of decision t lists the state u n times, once or more, and no other: it costs its
+  -- cost plus n times what u costs, by V* and by any costs, and none where that is none; that is its price, up to the ceiling; a policy
+  -- that takes it costs so much; and where the decision is solved by it, that is the decision's value, by V* and as written
   module _ (is : problemOf s .kind ≡ whole) (t i n u : ℕ) (acts : List Action) (node : nodeAt (problemOf s) t ≡ decision acts)
-      (only : actionAt acts i .successors ≡ replicate n u) where
-    pub check-pays : (v : ℕ → ℕ) → qFull (problemOf s .kind) v (actionAt acts i) ≡ actionAt acts i .cost + n * v u
-    check-pays = only-counts (problemOf s .kind) is (actionAt acts i) n u only
+      (exists : i < length acts) (often : 0 < n) (only : actionAt acts i .successors ≡ replicate n u) where
+    pub check-pays : (v : ℕ → Cost) →
+        qFull (problemOf s .kind) v (actionAt acts i) ≡ both _+_ (some (actionAt acts i .cost)) (times n (v u))
+    check-pays = only-counts (problemOf s .kind) is (actionAt acts i) n u often only
 
     pub price-pays : (v : ℕ → ℕ) → actionAt acts i .cost + n * v u ≤ ceiling →
         q (problemOf s .kind) v (actionAt acts i) ≡ actionAt acts i .cost + n * v u
-    price-pays = only-priced (problemOf s .kind) is (actionAt acts i) n u only
+    price-pays = only-priced (problemOf s .kind) is (actionAt acts i) n u often only
 
     pub plan-pays : (π : Policy) → π t ≡ some i →
-        policyCost (problemOf s) π t ≡ actionAt acts i .cost + n * policyCost (problemOf s) π u
-    plan-pays = policy-pays (problemOf s) wf is t i n u acts node only
+        policyCost (problemOf s) π t ≡ both _+_ (some (actionAt acts i .cost)) (times n (policyCost (problemOf s) π u))
+    plan-pays π takes = policy-pays (problemOf s) wf is t i n u acts node often only π takes exists
 
     pub settled-pays : solved (cellOf (cellsOf s) t) ≡ true → cellOf (cellsOf s) t .chosen ≡ i →
-        valueOf (cellsOf s) t ≡ cut (actionAt acts i .cost + n * optimal (problemOf s) u)
-    settled-pays = solved-pays (problemOf s) wf is t i n u acts node only (cellsOf s) (cells-of stands)
+        valueOf (cellsOf s) t ≡ amount (both _+_ (some (actionAt acts i .cost)) (times n (optimal (problemOf s) u)))
+    settled-pays marked e = solved-pays (problemOf s) wf is t i n u acts node often only (cellsOf s) (cells-of stands) marked e exists
 
-  -- 6: gaps, and with them the raises of all calls, are no more than there are states, times the ceiling, and so few
-  pub gaps-within : gaps (problemOf s) (cellsOf s) ≤ states (problemOf s) * ceiling
-  gaps-within = sum-bounded (gap (problemOf s) (cellsOf s)) ceiling (λ t. omega arith) (states (problemOf s))
+  -- 6: gaps, and with them the raises of all calls, are no more than there are states, times 1,000,000,001, and so few
+  pub gaps-within : gaps (problemOf s) (cellsOf s) ≤ states (problemOf s) * noPlan
+  gaps-within =
+      sum-bounded (gap (problemOf s) (cellsOf s)) noPlan (λ t. omega (arith, amount-small (optimal (problemOf s) t)))
+      (states (problemOf s))
 
   pub gaps-few : gaps (problemOf s) (cellsOf s) < manyRaises
   gaps-few = omega (arith, gaps-within, values-few (states (problemOf s)) (stands .asked .shaped .most))

@@ -3,18 +3,22 @@ use Prim.Native.Nat.{ℕ, zero, suc, _+_, _<_, _≤_}
 use mathlib.Core.Path.{_≡_, refl, sym, _∙_, subst}
 use mathlib.Core.Bool.{Bool, true, false}
 use mathlib.Core.Logic.{_⊎_, inl, inr, _≢_}
+use mathlib.Core.Option.{some}
 use mathlib.Core.List.{List, [], _∷_}
 use native.Mathlib.Omega.{arith}
 use borrow.Author.Tests.{ltb-true, ltb-false}
 use lib.Dec.{ltb}
 use lib.ListN.{length}
 use Rattle.model.specs.Problem.{Action, Node, terminal, decision, Problem, states, nodeAt, actionAt, _∈_, here, there}
+use Rattle.model.specs.Limits.{noPlan}
 use Rattle.model.specs.QValue.{least}
 use Rattle.model.specs.Ldfs.{Search, Visit, success, failure, halt, valueAt, solvedAt, priceAt, onTest, onVisit, raised}
-use Rattle.model.specs.Ldfs.{marked, update, ifDear, visitAll, tryOne, tryAll, visitOpen, visit}
-use Rattle.theory.specs.Consistent.{WellFormed}
+use Rattle.model.specs.Ldfs.{marked, update, ifDear, visitAll, tryOne, tryAll, finish, visitOpen, visit}
+use Rattle.model.specs.Ldfs.{ifDearBy, visitAllBy, tryOneBy, tryAllBy, visitOpenBy, visitBy}
+use Rattle.theory.specs.Consistent.{endOf, WellFormed, Settles}
 use Rattle.theory.proofs.Basics.{same-or-not, lt-or-le}
-use Rattle.theory.proofs.QValueLaws.{q-mono, least-below, least-above, least-attained}
+use Rattle.theory.proofs.CostLaws.{not-some}
+use Rattle.theory.proofs.QValueLaws.{q-small, q-mono, least-below, least-small, least-above}
 use Rattle.theory.proofs.Facts.{store-same}
 use Rattle.theory.proofs.Leads.{Ready, Leads, stay, then, wider, Fits, raise-leads, raised-cell, Done, mark-leads}
 use Rattle.theory.proofs.Leads.{value-of, solved-of}
@@ -36,7 +40,7 @@ on-visit P Q (halt w) f g x h k l = l w x
 
 on-dear : (P : Visit → Type 0) (p : Problem) (s : ℕ) (a : Action) (f g : Search → Visit) (w : Search) →
     (valueAt w s < priceAt p w a → P (f w)) → (priceAt p w a ≤ valueAt w s → P (g w)) → P (ifDear p s a f g w)
-unfolding ifDear
+unfolding ifDearBy
 on-dear P p s a f g w h k = on-test P (ltb (valueAt w s) (priceAt p w a)) f g w (λ e. h (ltb-true _ _ e)) (λ e. k (ltb-false _ _ e))
 
 -- How a visit to s that began at w ends: a success leaves s solved; a failure has raised something since r raises; a halt has spent
@@ -47,7 +51,7 @@ Visited p budget s r w (failure w′) = Leads p budget s w w′ × (r < w′ .ra
 Visited p budget s r w (halt w′) = Leads p budget s w w′ × (w′ .raises ≡ budget) × (solvedAt w′ s ≡ false)
 
 -- How the visits to the successors ts of an action a of s end.
-abbrev AllVisited : Problem → ℕ → ℕ → Action → List ℕ → Search → Visit → Type 0
+abbrev pub AllVisited : Problem → ℕ → ℕ → Action → List ℕ → Search → Visit → Type 0
 AllVisited p budget s a ts w (success w′) =
     Leads p budget (suc s) w w′ × ((t : ℕ) → t ∈ ts → solvedAt w′ t ≡ true) × (priceAt p w′ a ≤ valueAt w′ s)
 AllVisited p budget s a ts w (failure w′) =
@@ -74,19 +78,20 @@ later r lead (success w″) y = (then lead (y .0), y .1)
 later r lead (failure w″) y = (then lead (y .0), y .1)
 later r lead (halt w″) y = (then lead (y .0), y .1, y .2)
 
--- a state is not both
-no-node : {T : Type 0} {n : Node} {cost : ℕ} {acts : List Action} → n ≡ terminal cost → n ≡ decision acts → T
-no-node e e′ = let z : _≡_ {A = ℕ} 0 1 = cc in absurd (omega arith)
+-- a decision that ends by itself has no action, and ends at none
+pub barren : (acts : List Action) (x : ℕ) → endOf (decision acts) ≡ some x → (length acts ≡ 0) × (x ≡ noPlan)
+barren [] x e = (refl, (cc))
+barren (a ∷ more) x e = not-some refl e
 
 module _ (p : Problem) (wf : WellFormed p) (budget : ℕ) where
   -- a way of visiting the states above s that keeps the promise
-  abbrev Visits : ℕ → (ℕ → Search → Visit) → Type 0
+  abbrev pub Visits : ℕ → (ℕ → Search → Visit) → Type 0
   Visits s v = (t : ℕ) (w : Search) → s < t → t < states p → Ready p budget w → Visited p budget t (w .raises) w (v t w)
 
-  visitAll-does : (v : ℕ → Search → Visit) (s : ℕ) → Visits s v → (a : Action) (ts : List ℕ) →
+  pub visitAll-does : (v : ℕ → Search → Visit) (s : ℕ) → Visits s v → (a : Action) (ts : List ℕ) →
       ((t : ℕ) → t ∈ ts → (s < t) × (t < states p)) →
       (w : Search) → Ready p budget w → priceAt p w a ≤ valueAt w s → AllVisited p budget s a ts w (visitAll p budget v s a ts w)
-  unfolding visitAll
+  unfolding visitAllBy
   visitAll-does v s does a [] above w ready le = (stay ready, λ t m. absurd (elim m [ ]), le)
   visitAll-does v s does a (t ∷ ts) above w ready le =
       let (lt, tn) = above t here in
@@ -117,7 +122,7 @@ module _ (p : Problem) (wf : WellFormed p) (budget : ℕ) where
       subst (λ (u : Search). Visited p budget s r w (next u)) (sym (store-same s x w same)) (onSame same))
 
   module _ (v : ℕ → Search → Visit) (s : ℕ) (does : Visits s v) (state : s < states p) (acts : List Action)
-      (node : nodeAt p s ≡ decision acts) where
+      (node : nodeAt p s ≡ decision acts) (has : 0 < length acts) where
     -- while nothing has been raised since r, each action before number i is too dear
     abbrev Missed : ℕ → ℕ → Search → Type 0
     Missed i r w = w .raises ≡ r → (j : ℕ) → j < i → valueAt w s < priceAt p w (actionAt acts j)
@@ -146,17 +151,21 @@ module _ (p : Problem) (wf : WellFormed p) (budget : ℕ) where
         go : (r < w .raises) ⊎ (w .raises ≤ r) → r < w .raises
         go (inl h) = h
         go (inr h) =
-            let above = least-above (priceAt p w) acts (suc (valueAt w s)) (wf .has-action s acts node) (missed (omega arith)) in
-            absurd (omega (arith, le, above))
+            let dear = missed (omega arith) in
+            let room : suc (valueAt w s) ≤ noPlan = omega (arith, dear 0 has, q-small (p .kind) (valueAt w) (actionAt acts 0)) in
+            absurd (omega (arith, le, least-above (priceAt p w) acts (suc (valueAt w s)) room dear))
 
     -- the actions of s are acts, however they are come by
     its-acts : (P : List Action → Type 0) → P acts → (acts′ : List Action) → nodeAt p s ≡ decision acts′ → P acts′
     its-acts P x acts′ e = let same : acts ≡ acts′ = cc in subst P same x
 
+    no-end : {T : Type 0} (y : ℕ) → endOf (nodeAt p s) ≡ some y → T
+    no-end y e = absurd (omega (arith, barren acts y (rw node at e)))
+
     fits-least : (w : Search) → Fits p (w .cells) s (least (priceAt p w) acts)
     fits-least w = record {
-      small = let r = least-attained (priceAt p w) acts (wf .has-action s acts node) in omega (arith, r .2);
-      under-cost = λ cost e. no-node e node;
+      small = least-small (priceAt p w) acts;
+      under-end = λ y e. no-end y e;
       under-q = λ acts′ i e.
           its-acts (λ xs. i < length xs → least (priceAt p w) acts ≤ priceAt p w (actionAt xs i))
           (least-below (priceAt p w) acts i) acts′ e;
@@ -166,13 +175,16 @@ module _ (p : Problem) (wf : WellFormed p) (budget : ℕ) where
         ((t : ℕ) → t ∈ actionAt acts i .successors → solvedAt w t ≡ true) →
         priceAt p w (actionAt acts i) ≤ valueAt w s → Done p w s i
     done w i ready l solved le = record {
-      at-cost = λ cost e. no-node e node;
-      exists = its-acts (λ xs. i < length xs) l;
-      priced =
-          let is : valueAt w s ≡ priceAt p w (actionAt acts i) = omega (arith, le, ready .consistent .sound s .under-q acts i node l) in
-          its-acts (λ xs. valueAt w s ≡ priceAt p w (actionAt xs i)) is;
-      solves = λ acts′ t e. its-acts (λ xs. t ∈ actionAt xs i .successors → solvedAt w t ≡ true) (solved t) acts′ e;
+      at-end = λ y e. no-end y e;
+      passed = λ acts′ e _. its-acts (Settles p (w .cells) s i) settles acts′ e;
     }
+      where
+        settles : Settles p (w .cells) s i acts
+        settles = record {
+          exists = l;
+          priced = omega (arith, le, ready .consistent .sound s .under-q acts i node l);
+          below = solved;
+        }
 
     -- while the actions are gone through: s open, and action number i next
     record Trying (i r : ℕ) (w : Search) : Type 0 where
@@ -198,7 +210,7 @@ module _ (p : Problem) (wf : WellFormed p) (budget : ℕ) where
         priceAt p w (actionAt acts i) ≤ valueAt w s →
         ((w′ : Search) → Trying (suc i) r w′ → Visited p budget s r w′ (next w′)) →
         Visited p budget s r w (tryOne p budget v s acts i next w)
-    unfolding tryOne
+    unfolding tryOneBy
     tryOne-does i r l next w h le rest =
         let visits = visitAll-does v s does a ts (λ t m. wf .forward s i t acts node m) w (h .ready) le in
         on-visit (AllVisited p budget s a ts w) (Visited p budget s r w) (visitAll p budget v s a ts w) _ _ visits
@@ -222,10 +234,10 @@ module _ (p : Problem) (wf : WellFormed p) (budget : ℕ) where
 
     tryAll-does : (n i : ℕ) → i + n ≡ length acts → (r : ℕ) (w : Search) → Trying i r w →
         Visited p budget s r w (tryAll p budget v s acts n i w)
-    unfolding tryAll
+    unfolding tryAllBy
     tryAll-does zero i count r w h =
         update-does s (least (priceAt p w) acts) r failure w (h .ready) state (h .isOpen) (fits-least w)
-        (least-above (priceAt p w) acts (valueAt w s) (wf .has-action s acts node)
+        (least-above (priceAt p w) acts (valueAt w s) (h .ready .consistent .sound s .small)
         (λ j l. h .ready .consistent .sound s .under-q acts j node l))
         (λ up lead. (lead, omega (arith, h .begun)))
         (λ same. (stay (h .ready), dearer r w (h .begun) (λ e j l. h .missed e j (omega arith)) (omega arith)))
@@ -234,40 +246,43 @@ module _ (p : Problem) (wf : WellFormed p) (budget : ℕ) where
         (λ dear. tryAll-does n (suc i) (omega arith) r w (next-action i r w h (λ _. dear)))
         (λ le. tryOne-does i r (omega arith) (tryAll p budget v s acts n (suc i)) w h le (tryAll-does n (suc i) (omega arith) r))
 
-  -- a terminal that has its cost for a value is marked
-  finish : (s cost : ℕ) (w w′ : Search) → nodeAt p s ≡ terminal cost → s < states p → Leads p budget s w w′ →
-      solvedAt w′ s ≡ false →
-      valueAt w′ s ≡ cost → Visited p budget s (w .raises) w (success (marked s 0 w′))
-  finish s cost w w′ e state lead isOpen value =
-      let m = mark-leads p budget s 0 w′ (lead .ready) state isOpen is-done in (then lead (m .0), m .1)
+  -- a state that ends by itself, at x: its value becomes x, and it is marked
+  finish-does : (s x : ℕ) (w : Search) → endOf (nodeAt p s) ≡ some x → x ≤ noPlan → s < states p → Ready p budget w →
+      solvedAt w s ≡ false → Visited p budget s (w .raises) w (finish budget s x w)
+  unfolding finish
+  finish-does s x w ends small state ready isOpen =
+      let raise = raised-cell p budget s x w ready state in
+      let under = ready .consistent .sound s .under-end x ends in
+      update-does s x (w .raises) (λ w′. success (marked s 0 w′)) w ready state isOpen fits under
+      (λ up lead. done (raised s x w) lead (solved-of raise ∙ isOpen) (value-of raise))
+      (λ same. done w (stay ready) isOpen (sym same))
     where
-      is-done : Done p w′ s 0
-      is-done = record {
-        at-cost = λ cost′ e′. (refl, (cc));
-        exists = λ acts e′. no-node e e′;
-        priced = λ acts e′. no-node e e′;
-        solves = λ acts t e′. no-node e e′;
+      no-action : {T : Type 0} (acts : List Action) → nodeAt p s ≡ decision acts → 0 < length acts → T
+      no-action acts e has = absurd (omega (arith, barren acts x (rw e at ends)))
+
+      fits : Fits p (w .cells) s x
+      fits = record {
+        small = small;
+        under-end = λ y e. let same : x ≡ y = cc in omega arith;
+        under-q = λ acts i e l. no-action acts e (omega arith);
       }
+
+      done : (w′ : Search) → Leads p budget s w w′ → solvedAt w′ s ≡ false → valueAt w′ s ≡ x →
+          Visited p budget s (w .raises) w (success (marked s 0 w′))
+      done w′ lead isOpen value =
+          let is-done : Done p w′ s 0 = record { at-end = λ y e. (refl, (cc)); passed = λ acts e has. no-action acts e has } in
+          let m = mark-leads p budget s 0 w′ (lead .ready) state isOpen is-done in
+          (then lead (m .0), m .1)
 
   visitOpen-does : (v : ℕ → Search → Visit) (s : ℕ) → Visits s v → s < states p → (n : Node) → nodeAt p s ≡ n →
       (w : Search) → Ready p budget w → solvedAt w s ≡ false →
       Visited p budget s (w .raises) w (visitOpen p budget v s n w)
-  unfolding visitOpen
+  unfolding visitOpenBy
   visitOpen-does v s does state (terminal cost) e w ready isOpen =
-      let raise = raised-cell p budget s cost w ready state in
-      let under = ready .consistent .sound s .under-cost cost e in
-      update-does s cost (w .raises) (λ w′. success (marked s 0 w′)) w ready state isOpen fits under
-      (λ up lead. finish s cost w (raised s cost w) e state lead (solved-of raise ∙ isOpen) (value-of raise))
-      (λ same. finish s cost w w e state (stay ready) isOpen (sym same))
-    where
-      fits : Fits p (w .cells) s cost
-      fits = record {
-        small = wf .capped s cost e;
-        under-cost = λ cost′ e′. let same : cost ≡ cost′ = cc in omega arith;
-        under-q = λ acts i e′. no-node e e′;
-      }
-  visitOpen-does v s does state (decision acts) e w ready isOpen =
-      tryAll-does v s does state acts e (length acts) 0 (omega arith) (w .raises) w (record {
+      finish-does s cost w (rw e) (omega (arith, wf .capped s cost e)) state ready isOpen
+  visitOpen-does v s does state (decision []) e w ready isOpen = finish-does s noPlan w (rw e) (omega arith) state ready isOpen
+  visitOpen-does v s does state (decision (a ∷ more)) e w ready isOpen =
+      tryAll-does v s does state (a ∷ more) e (omega arith) (length (a ∷ more)) 0 (omega arith) (w .raises) w (record {
         ready = ready;
         isOpen = isOpen;
         begun = omega arith;
@@ -277,7 +292,7 @@ module _ (p : Problem) (wf : WellFormed p) (budget : ℕ) where
   -- a visit to any state, with fuel enough
   pub visit-does : (k s : ℕ) (w : Search) → states p ≤ s + k → s < states p → Ready p budget w →
       Visited p budget s (w .raises) w (visit p budget k s w)
-  unfolding visit
+  unfolding visitBy
   visit-does zero s w fuel state ready = absurd (omega arith)
   visit-does (suc k) s w fuel state ready =
       on-test (Visited p budget s (w .raises) w) (solvedAt w s) _ _ w
@@ -289,7 +304,7 @@ module _ (p : Problem) (wf : WellFormed p) (budget : ℕ) where
   pub abandoned-leads : (s i : ℕ) (acts : List Action) → nodeAt p s ≡ decision acts → (w w′ : Search) → Ready p budget w →
       priceAt p w (actionAt acts i) ≤ valueAt w s → tryOne p budget (visit p budget (states p)) s acts i failure w ≡ failure w′ →
       Leads p budget (suc s) w w′
-  unfolding tryOne onVisit
+  unfolding tryOneBy onVisit
   abandoned-leads s i acts node w w′ ready le =
       go (visitAll p budget to s (actionAt acts i) (actionAt acts i .successors) w)
       (visitAll-does to s does (actionAt acts i) (actionAt acts i .successors) (λ t m. wf .forward s i t acts node m) w ready le)

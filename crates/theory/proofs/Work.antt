@@ -5,8 +5,9 @@ use mathlib.Core.Bool.{true, false}
 use mathlib.Core.List.{List}
 use native.Mathlib.Omega.{arith}
 use Rattle.model.specs.Problem.{Problem, Cell, states, cellOf, valueOf, solved}
-use Rattle.model.specs.Limits.{ceiling}
+use Rattle.model.specs.Limits.{noPlan}
 use Rattle.model.specs.Ldfs.{Search, Visit, success, failure, halt, solvedAt, visit, Passes, onPass, passes, searchOf, work}
+use Rattle.model.specs.Ldfs.{passesBy, workBy}
 use Rattle.model.specs.Optimal.{sumBelow}
 use Rattle.model.specs.Report.{cellsAfter, raisesOf}
 use Rattle.theory.specs.Consistent.{WellFormed, Consistent}
@@ -54,7 +55,7 @@ pub record Worked (p : Problem) (cells : List Cell) (budget : ℕ) (r : Passes) 
 module _ (p : Problem) (wf : WellFormed p) where
   passes-does : (budget f n : ℕ) (w : Search) → budget < w .raises + f → Ready p budget w →
       Passed p budget n w (passes p budget f n w)
-  unfolding passes
+  unfolding passesBy
   passes-does budget zero n w fuel ready = absurd (omega (arith, ready .within))
   passes-does budget (suc f) n w fuel ready =
       on-pass (Visited p budget (p .start) (w .raises) w) (Passed p budget n w) (suc n) (visit p budget (states p) (p .start) w) _
@@ -65,7 +66,7 @@ module _ (p : Problem) (wf : WellFormed p) where
       (λ w′ x. record { end = x; few = omega (arith, x .0 .counts) })
 
   pub work-does : (cells : List Cell) (budget : ℕ) → Consistent p cells → Worked p cells budget (work p cells budget)
-  unfolding work
+  unfolding workBy
   work-does cells budget h =
       let r = passes-does budget (suc budget) 0 w (omega arith) (record { consistent = h; within = omega arith }) in
       go (passes p budget (suc budget) 0 w .begun) (passes p budget (suc budget) 0 w .ended) (r .end) (r .few)
@@ -92,8 +93,8 @@ module _ (p : Problem) (wf : WellFormed p) where
       go n (failure w′) x few = absurd x
       go n (halt w′) x few = gains n (halt w′) (x .0) (λ _. x .1) few
 
--- in the midst of a call too, raises are at most the number of states times the ceiling
+-- in the midst of a call too, raises are at most the number of states times the largest value
 pub leads-bounded : (p : Problem) (budget s : ℕ) (w w′ : Search) → w .raises ≡ 0 → Leads p budget s w w′ →
-    w′ .raises ≤ states p * ceiling
+    w′ .raises ≤ states p * noPlan
 leads-bounded p budget s w w′ e lead =
-    omega (arith, lead .paid, sum-bounded (valueOf (w′ .cells)) ceiling (λ u. lead .ready .consistent .sound u .small) (states p))
+    omega (arith, lead .paid, sum-bounded (valueOf (w′ .cells)) noPlan (λ u. lead .ready .consistent .sound u .small) (states p))

@@ -2,10 +2,11 @@
 use Prim.Native.Nat.{ℕ, _<_, _≤_}
 use mathlib.Core.Path.{_≡_}
 use mathlib.Core.Bool.{true, false}
+use mathlib.Core.Option.{Option, none, some}
 use mathlib.Core.List.{List, [], _∷_}
 use lib.ListN.{length}
-use Rattle.model.specs.Problem.{Action, terminal, decision, Problem, Cell, states, nodeAt, actionAt, cellOf, valueOf, solved, _∈_}
-use Rattle.model.specs.Limits.{ceiling}
+use Rattle.model.specs.Problem.{Action, Node, terminal, decision, Problem, Cell, states, nodeAt, actionAt, cellOf, valueOf, solved, _∈_}
+use Rattle.model.specs.Limits.{ceiling, noPlan}
 use Rattle.model.specs.QValue.{q}
 
 -- states ascend, and equal ones may stand side by side
@@ -13,12 +14,16 @@ abbrev pub Ascends : List ℕ → Type 0
 Ascends [] = Unit {0}
 Ascends (t ∷ ts) = ((u : ℕ) → u ∈ ts → t ≤ u) × Ascends ts
 
+-- the value that a state ends at by itself: a terminal's cost, none for a decision with no action; any other decision has actions to try
+abbrev pub endOf : Node → Option ℕ
+endOf (terminal cost) = some cost
+endOf (decision []) = some noPlan
+endOf (decision (a ∷ more)) = none
+
 -- of the problem alone
 pub record WellFormed (p : Problem) : Type 0 where
   -- 3: the start is a state
   pub starts : p .start < states p
-  -- 4: a decision has an action
-  pub has-action : (s : ℕ) (acts : List Action) → nodeAt p s ≡ decision acts → 0 < length acts
   -- 5: no terminal costs more than the ceiling
   pub capped : (s cost : ℕ) → nodeAt p s ≡ terminal cost → cost ≤ ceiling
   -- 6: successors are states above their decision
@@ -28,27 +33,28 @@ pub record WellFormed (p : Problem) : Type 0 where
   pub ordered : (s i : ℕ) (acts : List Action) → nodeAt p s ≡ decision acts → i < length acts →
       (0 < length (actionAt acts i .successors)) × Ascends (actionAt acts i .successors)
 
--- a decision's chosen action exists, has the decision's value for a price, and leads to solved states only
-pub record Settles (p : Problem) (cells : List Cell) (s : ℕ) (acts : List Action) : Type 0 where
-  pub exists : cellOf cells s .chosen < length acts
-  pub priced : cellOf cells s .value ≡ q (p .kind) (valueOf cells) (actionAt acts (cellOf cells s .chosen))
-  pub below : (t : ℕ) → t ∈ actionAt acts (cellOf cells s .chosen) .successors → solved (cellOf cells t) ≡ true
+-- action i of the decision s exists, has the decision's value for a price, and leads to solved states only
+pub record Settles (p : Problem) (cells : List Cell) (s i : ℕ) (acts : List Action) : Type 0 where
+  pub exists : i < length acts
+  pub priced : cellOf cells s .value ≡ q (p .kind) (valueOf cells) (actionAt acts i)
+  pub below : (t : ℕ) → t ∈ actionAt acts i .successors → solved (cellOf cells t) ≡ true
 
 -- of one state
 pub record Sound (p : Problem) (cells : List Cell) (s : ℕ) : Type 0 where
   -- 5
-  pub small : cellOf cells s .value ≤ ceiling
+  pub small : cellOf cells s .value ≤ noPlan
   pub mark : cellOf cells s .mark ≤ 1
   pub unchosen : solved (cellOf cells s) ≡ false → cellOf cells s .chosen ≡ 0
-  -- a terminal's field has no chosen action
-  pub endless : (cost : ℕ) → nodeAt p s ≡ terminal cost → cellOf cells s .chosen ≡ 0
+  -- a terminal's field has no chosen action, and a decision with no action has 0 there
+  pub endless : (x : ℕ) → endOf (nodeAt p s) ≡ some x → cellOf cells s .chosen ≡ 0
   -- 7
-  pub under-cost : (cost : ℕ) → nodeAt p s ≡ terminal cost → cellOf cells s .value ≤ cost
+  pub under-end : (x : ℕ) → endOf (nodeAt p s) ≡ some x → cellOf cells s .value ≤ x
   pub under-q : (acts : List Action) (i : ℕ) → nodeAt p s ≡ decision acts → i < length acts →
       cellOf cells s .value ≤ q (p .kind) (valueOf cells) (actionAt acts i)
   -- 8
-  pub at-cost : (cost : ℕ) → nodeAt p s ≡ terminal cost → solved (cellOf cells s) ≡ true → cellOf cells s .value ≡ cost
-  pub settles : (acts : List Action) → nodeAt p s ≡ decision acts → solved (cellOf cells s) ≡ true → Settles p cells s acts
+  pub at-end : (x : ℕ) → endOf (nodeAt p s) ≡ some x → solved (cellOf cells s) ≡ true → cellOf cells s .value ≡ x
+  pub settles : (acts : List Action) → nodeAt p s ≡ decision acts → 0 < length acts → solved (cellOf cells s) ≡ true →
+      Settles p cells s (cellOf cells s .chosen) acts
 
 pub record Consistent (p : Problem) (cells : List Cell) : Type 0 where
   pub size : length cells ≡ states p

@@ -69,6 +69,9 @@ fn measure_all() {
         "{:<30} {:>7} {:>7} {:>8} {:>12} {:>12} {:>12} {:>9} {:>9}",
         "sheet", "bytes", "passes", "raises", "library", "plain Rust", "plain C", "lib/Rust", "lib/C"
     );
+    for sample in sheets::unmeasured() {
+        agreed(&sample);
+    }
     for sample in sheets::all() {
         measure(&sample);
     }
@@ -131,6 +134,14 @@ fn copies_for(sample: &Sample) -> usize {
 
 /// All three, and `procedure`, leave the same bytes, table and result. Passes and raises.
 fn same_answers(sample: &Sample) -> (u64, u64) {
+    let (number, result) = agreed(sample);
+    assert!(number == 100, "{}: returned {number}", sample.name);
+    let read = |at: usize| u64::from_le_bytes(result[at..at + 8].try_into().expect("eight bytes"));
+    (read(8), read(16))
+}
+
+/// The number and the result on which all agree.
+fn agreed(sample: &Sample) -> (u32, [u8; 24]) {
     let answer = |solve: Solve| {
         let mut sheet = sample.bytes.clone();
         let (mut table, mut result) = ([7; TABLE_BYTES], [7; 24]);
@@ -138,10 +149,8 @@ fn same_answers(sample: &Sample) -> (u64, u64) {
         (number, result, sheet, table)
     };
     let expected = answer(procedure::call);
-    assert!(expected.0 == 100, "{}: returned {}", sample.name, expected.0);
     for (name, solve) in SOLVERS {
         assert!(answer(solve) == expected, "{}: {name} differs from procedure", sample.name);
     }
-    let number = |at: usize| u64::from_le_bytes(expected.1[at..at + 8].try_into().expect("eight bytes"));
-    (number(8), number(16))
+    (expected.0, expected.1)
 }

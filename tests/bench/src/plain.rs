@@ -2,6 +2,7 @@
 //! in place on the sheet's bytes, as the library does.
 
 const CEILING: u32 = 1_000_000_000;
+const NONE: u32 = 1_000_000_001;
 const MOST_COST: u32 = 1_000_000;
 const MOST_STATES: usize = 4096;
 
@@ -61,7 +62,8 @@ pub fn solve(sheet: &mut [u8], table: &mut [u8], budget: u64, result: &mut [u8])
     match way {
         Visit::Halt => 102,
         _ if value < CEILING => 100,
-        _ => 101,
+        _ if value == CEILING => 101,
+        _ => 103,
     }
 }
 
@@ -121,20 +123,31 @@ impl Search<'_> {
         self.get16(action + 7 + 2 * i)
     }
 
-    /// The price of a check by the current values.
+    fn any_none(&self, action: usize) -> bool {
+        (0..self.successors(action)).any(|i| self.value(self.successor(action, i)) == NONE)
+    }
+
+    /// The price of a check by the current values. Only one that reaches the ceiling can be none.
     fn price(&self, action: usize) -> u32 {
         let mut joined: u64 = 0;
         for i in 0..self.successors(action) {
             let value = u64::from(self.value(self.successor(action, i)));
             joined = if self.whole { joined + value } else { joined.max(value) };
         }
-        (u64::from(self.get32(action + 3)) + joined).min(u64::from(CEILING)) as u32
+        joined += u64::from(self.get32(action + 3));
+        if joined < u64::from(CEILING) {
+            joined as u32
+        } else if self.any_none(action) {
+            NONE
+        } else {
+            CEILING
+        }
     }
 
     // Questions 2 to 9.
 
     fn refusal(&mut self) -> u32 {
-        if self.bytes.len() < 20 || self.bytes.len() > 60_000 {
+        if self.bytes.len() < 17 || self.bytes.len() > 60_000 {
             2
         } else if !self.head_good() {
             3
@@ -199,16 +212,13 @@ impl Search<'_> {
                 at += length;
                 actions += 1;
             }
-            if actions == 0 {
-                return false;
-            }
         }
         at == self.bytes.len()
     }
 
     fn numbers_good(&self, state: usize) -> bool {
         let cell = self.value_place(state);
-        if self.get32(cell) > CEILING || self.bytes[cell + 4] > 1 {
+        if self.get32(cell) > NONE || self.bytes[cell + 4] > 1 {
             return false;
         }
         if self.is_terminal(state) {
@@ -225,7 +235,7 @@ impl Search<'_> {
             action = self.next_action(action);
         }
         let chosen = self.bytes[cell + 5];
-        if self.bytes[cell + 4] == 0 {
+        if self.bytes[cell + 4] == 0 || actions == 0 {
             chosen == 0
         } else {
             chosen < actions
@@ -274,6 +284,9 @@ impl Search<'_> {
             return self.value(state) == self.terminal_cost(state);
         }
         let mut action = self.first_action(state);
+        if !self.action_here(action) {
+            return self.value(state) == NONE;
+        }
         for _ in 0..self.bytes[self.value_place(state) + 5] {
             action = self.next_action(action);
         }
@@ -327,11 +340,16 @@ impl Search<'_> {
             action = self.next_action(action);
         }
         let least = self.least_price(state);
-        if self.update(state, least) {
-            Visit::Failure
-        } else {
-            Visit::Halt
+        if !self.update(state, least) {
+            return Visit::Halt;
         }
+        if number > 0 {
+            return Visit::Failure;
+        }
+        // It has no checks.
+        self.bytes[cell + 4] = 1;
+        self.bytes[cell + 5] = 0;
+        Visit::Success
     }
 
     /// A visit that raised nothing has changed no price, so only after others is the check priced anew.
@@ -350,7 +368,7 @@ impl Search<'_> {
     }
 
     fn least_price(&self, state: usize) -> u32 {
-        let mut least = CEILING;
+        let mut least = NONE;
         let mut action = self.first_action(state);
         while self.action_here(action) {
             least = least.min(self.price(action));

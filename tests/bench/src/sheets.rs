@@ -22,6 +22,15 @@ pub fn all() -> Vec<Sample> {
     ]
 }
 
+/// Junctions without checks: all have to agree on these too, and no times are taken.
+pub fn unmeasured() -> Vec<Sample> {
+    let sample = |name, bytes: &[u8]| Sample { name, bytes: bytes.to_vec() };
+    vec![
+        sample("no check left", include_bytes!("../../../samples/no-check-left.sheet")),
+        sample("no check left, over", include_bytes!("../../../samples/no-check-left-over.sheet")),
+    ]
+}
+
 /// Park and Miller's numbers.
 pub struct Draws(pub u64);
 
@@ -161,7 +170,7 @@ pub fn values_at(mut bytes: Vec<u8>, hundredths: u64) -> Vec<u8> {
     let sheet = sweep::read(&bytes).unwrap_or_else(|number| panic!("the sheet is refused {number}"));
     let mut at = 8;
     for cost in sheet.least_costs() {
-        let value = ((cost * hundredths / 100) as u32).to_be_bytes();
+        let value = ((sweep::written(cost) * hundredths / 100) as u32).to_be_bytes();
         let terminal = bytes[at] == 2;
         let place = if terminal { at + 7 } else { at + 3 };
         bytes[place..place + 4].copy_from_slice(&value);

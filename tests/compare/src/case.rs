@@ -1,8 +1,10 @@
-//! A case from a seed: a sheet, perhaps with repeats, perhaps worked, perhaps damaged, and a list of calls.
+//! A case from a seed: a sheet, perhaps with junctions emptied, perhaps with repeats, perhaps worked, perhaps damaged, and a list of calls.
 
 use crate::calls::{self, Call, TABLE_BYTES};
 use crate::cells::{self, Worked};
 use crate::damage;
+use crate::draft::Draft;
+use crate::emptied;
 use crate::groups;
 use crate::rng::Rng;
 use crate::shapes::{self, SHAPES};
@@ -22,10 +24,13 @@ pub fn make(seed: u64) -> Case {
     let mut rng = Rng::new(seed);
     let (shape, draw) = SHAPES[shapes::draw(&mut rng)];
     let mut draft = draw(&mut rng);
+    if rng.one_in(3) {
+        emptied::put(&mut draft, &mut rng);
+    }
     if draft.kind == 1 && rng.one_in(2) {
         groups::put(&mut draft, &mut rng);
     }
-    let filled = how_worked(&mut rng, shape, groups::any(&draft));
+    let filled = how_worked(&mut rng, shape, &draft);
     cells::fill(&mut draft, &mut rng, filled);
     let (in_draft, in_bytes) =
         rng.pick(&[(false, false), (false, false), (false, false), (true, false), (false, true), (true, true)]);
@@ -46,13 +51,15 @@ pub fn make(seed: u64) -> Case {
     Case { shape, damaged: in_draft || in_bytes, states, bytes, calls, worked }
 }
 
-/// Large sheets are worked nearly to their end, or visits would never get far into them; those with repeats more often than others.
-fn how_worked(rng: &mut Rng, shape: &str, repeats: bool) -> Worked {
+/// Large sheets are worked nearly to their end, or visits would never get far into them; those with repeats, or with a junction without
+/// checks, more often than others.
+fn how_worked(rng: &mut Rng, shape: &str, draft: &Draft) -> Worked {
     use Worked::*;
     match shape {
         "deep chain" | "chain at the ceiling" => rng.pick(&[Blank, Near, Dented, Dented, Optimal, Optimal]),
-        "sums at the ceiling" | "full size" | "many stages" => rng.pick(&[Blank, Low, Near, Dented, Optimal]),
-        _ if repeats => rng.pick(&[Blank, Blank, Low, Near, Dented, Optimal, Optimal]),
+        "sums at the ceiling" | "none beside the ceiling" => rng.pick(&[Blank, Low, Near, Dented, Optimal]),
+        "full size" | "many stages" => rng.pick(&[Blank, Low, Near, Dented, Optimal]),
+        _ if groups::any(draft) || emptied::any(draft) => rng.pick(&[Blank, Blank, Low, Near, Dented, Optimal, Optimal]),
         _ => rng.pick(&[Blank, Blank, Blank, Low, Near, Dented, Optimal]),
     }
 }

@@ -1,6 +1,6 @@
 //! Values, marks and chosen checks of a sheet that has been worked to some extent: questions 5, 7 and 8 hold by the way they are made.
 
-use crate::draft::{Draft, Node};
+use crate::draft::{Draft, Node, CEILING, NONE};
 use crate::rng::Rng;
 
 #[derive(Clone, Copy)]
@@ -30,10 +30,21 @@ pub fn fill(draft: &mut Draft, rng: &mut Rng, worked: Worked) {
     let one_dent_in = ONE_DENT_IN.max(draft.states.len() / MOST_DENTS);
     for state in (0..draft.states.len()).rev() {
         let top = draft.top(state);
-        draft.states[state].value = value(rng, worked, top, one_dent_in);
+        draft.states[state].value = match worked {
+            Worked::Low if draft.emptied(state) => anything(rng),
+            _ => value(rng, worked, top, one_dent_in),
+        };
         if rng.below(8) < marked_in_eight {
             mark(draft, rng, state);
         }
+    }
+}
+
+/// Every value at the least cost, and every state marked.
+pub fn finish(draft: &mut Draft, rng: &mut Rng) {
+    for state in (0..draft.states.len()).rev() {
+        draft.states[state].value = draft.top(state);
+        mark(draft, rng, state);
     }
 }
 
@@ -49,12 +60,20 @@ fn value(rng: &mut Rng, worked: Worked, top: u32, one_dent_in: usize) -> u32 {
     top.saturating_sub(below)
 }
 
+/// The value of an open junction without checks may be any, up to none.
+fn anything(rng: &mut Rng) -> u32 {
+    let ceiling = CEILING as u32;
+    let drawn = rng.below(NONE as usize + 1) as u32;
+    rng.pick(&[0, drawn, drawn, ceiling - 1, ceiling, NONE])
+}
+
 /// Marks a state if its value has earned it, with any check that passes as the chosen one.
 fn mark(draft: &mut Draft, rng: &mut Rng, state: usize) {
     let value = draft.states[state].value;
     let passing: Vec<usize> = match &draft.states[state].node {
         Node::Terminal(cost) if value == *cost => vec![0],
         Node::Terminal(_) => Vec::new(),
+        Node::Decision(actions) if actions.is_empty() && value == NONE => vec![0],
         Node::Decision(actions) => {
             let solved = |t: &u16| draft.states[usize::from(*t)].mark == 1;
             let passes = |i: &usize| {

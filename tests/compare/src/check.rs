@@ -4,8 +4,8 @@ use crate::calls::{Call, ENTRY_BYTES, FORMER_TABLE_BYTES, TABLE_BYTES};
 use crate::coverage::Coverage;
 use crate::draft::{FEW_STATES, FORMER_MOST, MOST_STATES};
 use crate::lent::Lent;
-use crate::repeats;
-use sweep::{Action, Node, Sheet, CEILING};
+use crate::{none, none_refused, repeats};
+use sweep::{meant, written, Action, Cost, Node, Sheet, CEILING};
 
 /// Makes the calls one after another, each on the bytes that the last one left, and compares everything that each of them leaves.
 /// The error says what differs.
@@ -14,7 +14,7 @@ pub fn run(outset: &[u8], calls: &[Call], seen: &mut Coverage) -> Result<(), Str
     let mut raises = 0;
     let (mut stopped_before, mut carried_on) = (false, false);
     // What the calls returned: 100 or more where the sheet was worked, and on a refused sheet its question's number.
-    let mut highest = 0;
+    let mut numbers = Vec::new();
     for (place, call) in calls.iter().enumerate() {
         let before = bytes.clone();
         let answer = one(&mut bytes, call).map_err(|why| format!("call {place}, budget {}: {why}", call.budget))?;
@@ -24,18 +24,22 @@ pub fn run(outset: &[u8], calls: &[Call], seen: &mut Coverage) -> Result<(), Str
         count(call, &answer, &before, stopped_before, seen);
         carried_on |= stopped_before && answer.number >= 100;
         stopped_before = answer.number == 102;
-        highest = highest.max(answer.number);
+        numbers.push(answer.number);
     }
+    let highest = numbers.iter().copied().max().unwrap_or(0);
     let Ok(first) = sweep::read(outset) else {
         repeats::count_refused(outset, highest, seen);
+        none_refused::count_refused(outset, highest, seen);
         return Ok(());
     };
     let last = sweep::read(&bytes).map_err(|number| format!("a worked sheet is refused {number}"))?;
     worked(&first, &last, raises)?;
+    none::outcomes(&first, &numbers)?;
     count_sheet(outset, &first, &last, seen);
     seen.add("repeats: one finding n times costs n times", repeats::multiplied(&last)?);
     if highest >= 100 {
         repeats::count(&first, &last, carried_on, seen);
+        none::count(&first, &last, seen);
     }
     Ok(())
 }
@@ -103,8 +107,11 @@ fn refusal_by_sweep(bytes: &[u8], call: &Call, number: u32) -> Result<(), String
     }
 }
 
-/// Passes are at most raises plus 1; who stops has spent the budget.
+/// Passes are at most raises plus 1, and raises at most the budget (S7.3); who stops has spent it.
 fn budget_is_spent(call: &Call, answer: &Answer) -> Result<(), String> {
+    if answer.raises > call.budget {
+        return Err(format!("{} raises with a budget of {}", answer.raises, call.budget));
+    }
     if answer.passes > answer.raises + 1 {
         return Err(format!("{} passes with {} raises", answer.passes, answer.raises));
     }
@@ -114,7 +121,7 @@ fn budget_is_spent(call: &Call, answer: &Answer) -> Result<(), String> {
     Ok(())
 }
 
-/// Demand 3: what holds of a sheet after any list of calls, by the least costs.
+/// Demand 3: what holds of a sheet after any list of calls, by the least costs as they are written (S8.6 to S8.10).
 fn worked(first: &Sheet, last: &Sheet, raises: u64) -> Result<(), String> {
     let least = last.least_costs();
     if least != first.least_costs() {
@@ -123,12 +130,12 @@ fn worked(first: &Sheet, last: &Sheet, raises: u64) -> Result<(), String> {
     let mut gap_at_outset = 0;
     let mut gap_left = 0;
     for state in 0..least.len() {
-        let (low, value) = (first.cells[state].value, last.cells[state].value);
-        if value < low || value > least[state] {
-            return Err(format!("state {state}: value {value} is not in {low} to {}", least[state]));
+        let (low, value, high) = (first.cells[state].value, last.cells[state].value, written(least[state]));
+        if value < low || value > high {
+            return Err(format!("state {state}: value {value} is not in {low} to {high}"));
         }
-        gap_at_outset += least[state] - low;
-        gap_left += least[state] - value;
+        gap_at_outset += high - low;
+        gap_left += high - value;
     }
     if raises + gap_left > gap_at_outset {
         return Err(format!("{raises} raises and gaps of {gap_left} left, with gaps of {gap_at_outset} at the outset"));
@@ -141,17 +148,17 @@ fn worked(first: &Sheet, last: &Sheet, raises: u64) -> Result<(), String> {
 }
 
 /// A settled start has the least cost, and below the ceiling its plan is complete and costs that.
-fn plan_is_best(sheet: &Sheet, least: &[u64]) -> Result<(), String> {
-    let price = sheet.cells[sheet.start].value;
-    if price != least[sheet.start] {
-        return Err(format!("settled at {price}, but the least cost is {}", least[sheet.start]));
+fn plan_is_best(sheet: &Sheet, least: &[Cost]) -> Result<(), String> {
+    let (price, due) = (sheet.cells[sheet.start].value, written(least[sheet.start]));
+    if price != due {
+        return Err(format!("settled at {price}, but the least cost is {due}"));
     }
-    if price == CEILING {
+    if price >= CEILING {
         return Ok(());
     }
     let cost = sheet.plan_costs()[sheet.start];
-    if cost != price {
-        return Err(format!("settled at {price}, but the written plan costs {cost}"));
+    if cost != Some(price) {
+        return Err(format!("settled at {price}, but the written plan costs {cost:?}"));
     }
     match sheet.plan_states().into_iter().find(|&state| !sheet.solved(state)) {
         Some(state) => Err(format!("the plan reaches state {state}, which is open")),
@@ -165,12 +172,14 @@ fn count(call: &Call, answer: &Answer, before: &[u8], stopped_before: bool, seen
         100 => seen.saw(&format!("settled {kind}")),
         101 => seen.saw(&format!("over {kind}")),
         102 => seen.saw(&format!("stopped {kind}")),
+        103 => seen.saw(&format!("none {kind}")),
         refusal => seen.saw(&format!("refused {refusal}")),
     }
     let unrefused = answer.number >= 100;
     seen.add("raises", answer.raises);
     seen.saw_if(answer.raises > 65_536, "more than 65,536 raises in one call");
     seen.saw_if(stopped_before && unrefused, "carried on");
+    seen.saw_if(stopped_before && answer.number == 103, "none: carried on after a stop");
     seen.saw_if(unrefused && call.budget == u64::MAX, "largest budget");
     seen.saw_if(answer.number != 1 && call.table.len() >= TABLE_BYTES + ENTRY_BYTES, "table longer than 4,096 entries");
     let for_the_table = answer.number == 1 && call.result.len() >= 24;
@@ -184,6 +193,7 @@ fn count(call: &Call, answer: &Answer, before: &[u8], stopped_before: bool, seen
 fn count_sheet(outset: &[u8], first: &Sheet, last: &Sheet, seen: &mut Coverage) {
     let states = first.nodes.len();
     let touched = first.cells.iter().any(|cell| cell.value > 0 || cell.mark == 1);
+    seen.saw_if(outset.len() == 17, "17 bytes");
     seen.saw_if(outset.len() == 20, "20 bytes");
     seen.saw_if(outset.len() == 60_000, "60,000 bytes");
     seen.saw_if(states == FEW_STATES, "256 states");
@@ -199,7 +209,7 @@ fn count_sheet(outset: &[u8], first: &Sheet, last: &Sheet, seen: &mut Coverage) 
     let depth = if settled(first, last, first.start) { depth(last) } else { 0 };
     seen.saw_if(depth >= 1_000, "chain of 1,000 or more worked to its end");
     seen.saw_if(depth >= 3_000, "chain of 3,000 or more worked to its end");
-    let sums: Vec<u64> = if last.whole { actions(last).map(|a| sum(last, a)).collect() } else { Vec::new() };
+    let sums: Vec<u64> = if last.whole { actions(last).filter_map(|a| sum(last, a)).collect() } else { Vec::new() };
     seen.saw_if(sums.iter().any(|&sum| sum > u64::from(u32::MAX)), "sum above 32 bits");
     let wraps = |&sum: &u64| sum > u64::from(u32::MAX) && sum % (1 << 32) < CEILING;
     seen.saw_if(sums.iter().any(wraps), "sum that wraps to below the ceiling");
@@ -217,30 +227,25 @@ pub fn settled(first: &Sheet, last: &Sheet, state: usize) -> bool {
 fn depth(sheet: &Sheet) -> usize {
     let mut above = vec![0; sheet.nodes.len()];
     for state in sheet.plan_states() {
-        if let Node::Decision(actions) = &sheet.nodes[state] {
-            for &successor in &actions[sheet.cells[state].chosen].successors {
-                above[successor] = above[successor].max(above[state] + 1);
-            }
+        for &successor in sheet.chosen(state).into_iter().flat_map(|chosen| &chosen.successors) {
+            above[successor] = above[successor].max(above[state] + 1);
         }
     }
     above.into_iter().max().unwrap_or(0)
 }
 
 pub fn actions(sheet: &Sheet) -> impl Iterator<Item = &Action> {
-    sheet.nodes.iter().flat_map(|node| match node {
-        Node::Terminal(_) => &[],
-        Node::Decision(actions) => &actions[..],
-    })
+    (0..sheet.nodes.len()).flat_map(|state| sheet.actions(state))
 }
 
-/// Cost plus values, uncut.
-pub fn sum(sheet: &Sheet, action: &Action) -> u64 {
-    action.cost + action.successors.iter().map(|&t| sheet.cells[t].value).sum::<u64>()
+/// Cost plus values, uncut; nothing where one of them is none.
+pub fn sum(sheet: &Sheet, action: &Action) -> Option<u64> {
+    let values = action.successors.iter().map(|&t| meant(sheet.cells[t].value));
+    Some(action.cost + values.sum::<Option<u64>>()?)
 }
 
 /// Work has settled a junction by a check although one before it has the same price.
 fn abandoned(first: &Sheet, last: &Sheet, state: usize) -> bool {
-    let Node::Decision(actions) = &last.nodes[state] else { return false };
     let cell = &last.cells[state];
-    settled(first, last, state) && actions[..cell.chosen].iter().any(|a| last.price(a) == cell.value)
+    settled(first, last, state) && last.actions(state)[..cell.chosen].iter().any(|a| last.price(a) == cell.value)
 }

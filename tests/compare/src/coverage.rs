@@ -3,7 +3,7 @@
 use std::collections::BTreeMap;
 
 /// A long run must have each of these.
-const WANTED: [&str; 70] = [
+const WANTED: [&str; 111] = [
     "refused 1",
     "refused 2",
     "refused 3",
@@ -74,12 +74,54 @@ const WANTED: [&str; 70] = [
     "refused 6: equal findings at the number of stages on a whole sheet",
     "refused 7: a repeated finding counted once more",
     "refused 8: a repeated finding counted once less",
+    "none worst",
+    "none whole",
+    "none: carried on after a stop",
+    "17 bytes",
+    "none: partly worked at the outset",
+    "none: stopped with the start at none",
+    "none: the start has no checks",
+    "none: a stage in the middle has no checks",
+    "none: the last stage has no checks",
+    "none: raised from 0",
+    "none: raised from between 0 and the ceiling",
+    "none: raised from the ceiling",
+    "none: settled without a raise",
+    "none: every check of the start is none",
+    "none: every check of the start is none with more than 256 states",
+    "none: settled beside a check that is none",
+    "none: settled beside a check that is none with more than 256 states",
+    "none: over beside a check that is none",
+    "none: only the first of several findings",
+    "none: only one between the first and the last finding",
+    "none: only the last of several findings",
+    "none: a finding listed several times",
+    "none: beside findings that add up to the ceiling",
+    "none: climbed five stages or more",
+    "none: climbed 500 stages or more",
+    "refused 2: 16 bytes",
+    "refused 4: 17 to 19 bytes",
+    "refused 5: a chosen check at an open junction without checks",
+    "refused 5: a chosen check at a settled junction without checks",
+    "refused 5: 1,000,000,002 at an ending",
+    "refused 5: 1,000,000,002 at a junction",
+    "refused 5: 1,000,000,002 at a junction without checks",
+    "refused 7: an ending at none",
+    "refused 7: a junction at none beside a check that is none",
+    "refused 7: a junction at the ceiling beside a check that is none",
+    "refused 7: settled at none for the ceiling",
+    "refused 8: settled at the ceiling for none",
+    "refused 8: settled at none with an open finding",
+    "refused 8: settled without checks at 0",
+    "refused 8: settled without checks a cent below the ceiling",
+    "refused 8: settled without checks at the ceiling",
 ];
 
 /// Wanted too where a `price` program is given.
-const WANTED_OF_PRICE: [&str; 11] = [
+const WANTED_OF_PRICE: [&str; 13] = [
     "price: settled",
     "price: over",
+    "price: none",
     "price: refused",
     "price: by on a whole sheet",
     "price: by where two findings share the largest value",
@@ -89,6 +131,7 @@ const WANTED_OF_PRICE: [&str; 11] = [
     "price: by that is listed more than once",
     "price: by where a repeated finding shares the largest value",
     "price: run along by adds up to the price",
+    "price: settled past a junction without checks",
 ];
 
 /// And of these, one sheet in so many must have had each: the whole text was compared, and had the line of a junction in it.

@@ -1,8 +1,8 @@
 //! Damage. Each question is tried on both sides of its boundary, in the draft; then bytes are flipped, cut off and added.
 
 use crate::draft::{Action, Draft, Node, FEW_STATES, FORMER_MOST, MOST_STATES};
-use crate::groups;
 use crate::rng::Rng;
+use crate::{emptied, groups, none_damage};
 
 type InDraft = fn(&mut Draft, &mut Rng);
 
@@ -40,6 +40,9 @@ const IN_BYTES: [fn(&mut Vec<u8>, &mut Rng); 7] = [flip, cut, extend, size_limit
 
 /// One damage of the draft, or several: the first question that is answered no decides.
 pub fn draft(draft: &mut Draft, rng: &mut Rng) {
+    if emptied::any(draft) && !rng.one_in(4) {
+        return none_damage::draft(draft, rng);
+    }
     if groups::any(draft) && !rng.one_in(4) {
         return rng.pick(&OF_REPEATS)(draft, rng);
     }
@@ -74,6 +77,7 @@ fn start(draft: &mut Draft, rng: &mut Rng) {
 
 // Question 4.
 
+/// 0 to 16 checks are as many as a junction may have.
 fn number_of_checks(draft: &mut Draft, rng: &mut Rng) {
     let wanted = rng.pick(&[0, 1, 15, 16, 17, 18]);
     if let Some(actions) = decision(draft, rng).map(|(_, actions)| actions) {
@@ -112,7 +116,7 @@ fn ending_cost(draft: &mut Draft, rng: &mut Rng) {
 
 fn value_range(draft: &mut Draft, rng: &mut Rng) {
     let number = rng.below(draft.states.len());
-    draft.states[number].value = rng.pick(&[0, 999_999_999, 1_000_000_000, 1_000_000_001, u32::MAX]);
+    draft.states[number].value = rng.pick(&[0, 999_999_999, 1_000_000_000, 1_000_000_001, 1_000_000_002, u32::MAX]);
 }
 
 fn mark_range(draft: &mut Draft, rng: &mut Rng) {
@@ -275,7 +279,7 @@ fn flip(bytes: &mut Vec<u8>, rng: &mut Rng) {
 fn cut(bytes: &mut Vec<u8>, rng: &mut Rng) {
     let length = bytes.len();
     let anywhere = rng.below(length + 1);
-    bytes.truncate(rng.pick(&[0, 7, 8, 19, 20, length.saturating_sub(1), length.saturating_sub(12), anywhere]));
+    bytes.truncate(rng.pick(&[0, 7, 8, 16, 17, 19, 20, length.saturating_sub(1), length.saturating_sub(12), anywhere]));
 }
 
 fn extend(bytes: &mut Vec<u8>, rng: &mut Rng) {
@@ -289,7 +293,7 @@ fn extend(bytes: &mut Vec<u8>, rng: &mut Rng) {
 
 /// Question 2, with whatever the sheet has.
 fn size_limits(bytes: &mut Vec<u8>, rng: &mut Rng) {
-    let length = rng.pick(&[19, 20, 60_000, 60_001, 65_000]);
+    let length = rng.pick(&[16, 17, 19, 20, 60_000, 60_001, 65_000]);
     bytes.resize(length, 0);
 }
 

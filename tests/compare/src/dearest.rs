@@ -3,14 +3,14 @@
 use crate::coverage::Coverage;
 use crate::repeats;
 use std::collections::BTreeSet;
-use sweep::{Action, Node, Sheet};
+use sweep::{Action, Sheet};
 
 /// Of a settled sheet, as work left it: each junction that the plan reaches has a line. What several of them had counts once.
 pub fn count(sheet: &Sheet, seen: &mut Coverage) {
     let mut had = BTreeSet::new();
     for state in sheet.plan_states() {
-        if let Node::Decision(actions) = &sheet.nodes[state] {
-            had.extend(facts(sheet, &actions[sheet.cells[state].chosen], &actions[0]));
+        if let Some(chosen) = sheet.chosen(state) {
+            had.extend(facts(sheet, chosen, &sheet.actions(state)[0]));
         }
     }
     had.into_iter().for_each(|fact| seen.saw(fact));

@@ -31,6 +31,9 @@ pub struct Draft {
 
 pub const CEILING: u64 = 1_000_000_000;
 
+/// How none is written (S2.11).
+pub const NONE: u32 = 1_000_000_001;
+
 /// The most states of a sheet (S4.3).
 pub const MOST_STATES: usize = 4096;
 
@@ -65,17 +68,34 @@ impl Draft {
 
     /// The price of a check by the values drafted so far.
     pub fn price(&self, action: &Action) -> u64 {
-        let values = action.successors.iter().map(|&t| u64::from(self.states[usize::from(t)].value));
+        let values: Vec<u32> = action.successors.iter().map(|&t| self.states[usize::from(t)].value).collect();
+        if values.contains(&NONE) {
+            return u64::from(NONE);
+        }
+        let values = values.into_iter().map(u64::from);
         let joined = if self.kind == 0 { values.max().unwrap_or(0) } else { values.sum() };
         CEILING.min(u64::from(action.cost) + joined)
     }
 
-    /// The most that question 7 allows as the value of a state.
+    /// The most that question 7 allows as the value of a state, and question 5 where there are no checks.
     pub fn top(&self, state: usize) -> u32 {
         match &self.states[state].node {
             Node::Terminal(cost) => *cost,
-            Node::Decision(actions) => actions.iter().map(|a| self.price(a)).min().unwrap_or(0) as u32,
+            Node::Decision(actions) => actions.iter().map(|a| self.price(a) as u32).min().unwrap_or(NONE),
         }
+    }
+
+    /// A junction's checks; a terminal has none.
+    pub fn actions(&self, state: usize) -> &[Action] {
+        match &self.states[state].node {
+            Node::Terminal(_) => &[],
+            Node::Decision(actions) => actions,
+        }
+    }
+
+    /// Is the state a junction that has no checks?
+    pub fn emptied(&self, state: usize) -> bool {
+        matches!(&self.states[state].node, Node::Decision(actions) if actions.is_empty())
     }
 }
 

@@ -1,7 +1,7 @@
 //! The `price` program, run on a sheet and compared with the lines of `procedure`.
 
 use crate::coverage::Coverage;
-use crate::{dearest, lines, run};
+use crate::{dearest, lines, none, run};
 use std::io::Write;
 use std::process::{Command, Output, Stdio};
 use sweep::Sheet;
@@ -18,6 +18,7 @@ pub fn compare(program: &str, bytes: &[u8], worked: &[u8], seen: &mut Coverage) 
         if lines::stages(&printed)? != sheet.plan_states() {
             return Err("price printed lines of other stages than the plan reaches".to_string());
         }
+        none::not_reached(&sheet, seen)?;
         dearest::count(&sheet, seen);
         follow(&printed, &sheet, seen)?;
     }

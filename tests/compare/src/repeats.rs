@@ -4,7 +4,7 @@
 use crate::check::{actions, settled, sum};
 use crate::coverage::Coverage;
 use crate::draft::{FEW_STATES, MOST_STATES};
-use sweep::{Action, Node, Sheet, CEILING};
+use sweep::{meant, written, Action, Cost, Node, Sheet, CEILING};
 
 /// The findings that a check lists several times side by side, and how often.
 pub fn groups(action: &Action) -> Vec<(usize, usize)> {
@@ -12,8 +12,8 @@ pub fn groups(action: &Action) -> Vec<(usize, usize)> {
     runs.filter(|run| run.len() > 1).map(|run| (run[0], run.len())).collect()
 }
 
-/// A check that lists one finding n times, and no other, costs its cost plus n times that finding's least cost; its price, and the value of
-/// a junction that it settled, is that by the values. How many such checks the sheet has.
+/// A check that lists one finding n times, and no other, costs its cost plus n times that finding's least cost, or none where that is none;
+/// its price, and the value of a junction that it settled, is that by the values. How many such checks the sheet has.
 pub fn multiplied(sheet: &Sheet) -> Result<u64, String> {
     let least = sheet.least_costs();
     let mut checks = 0;
@@ -22,8 +22,8 @@ pub fn multiplied(sheet: &Sheet) -> Result<u64, String> {
         if times < action.successors.len() {
             continue;
         }
-        let direct = |each: u64| CEILING.min(action.cost + times as u64 * each);
-        let by_values = direct(sheet.cells[finding].value);
+        let direct = |each: Cost| each.map(|each| CEILING.min(action.cost + times as u64 * each));
+        let by_values = written(direct(meant(sheet.cells[finding].value)));
         let costs = sheet.q_value(action, |t| least[t]) == direct(least[finding]) && sheet.price(action) == by_values;
         if !costs || settles(sheet, state, action) && sheet.cells[state].value != by_values {
             return Err(format!("stage {state}: stage {finding}, listed {times} times, does not count {times} times"));
@@ -35,8 +35,7 @@ pub fn multiplied(sheet: &Sheet) -> Result<u64, String> {
 
 /// Is this the chosen check of a settled junction?
 fn settles(sheet: &Sheet, state: usize, action: &Action) -> bool {
-    let Node::Decision(actions) = &sheet.nodes[state] else { return false };
-    sheet.solved(state) && std::ptr::eq(&actions[sheet.cells[state].chosen], action)
+    sheet.solved(state) && sheet.chosen(state).is_some_and(|chosen| std::ptr::eq(chosen, action))
 }
 
 /// Of an accepted sheet that was worked: what it had, and what work made of it.
@@ -59,23 +58,17 @@ pub fn count(first: &Sheet, last: &Sheet, carried_on: bool, seen: &mut Coverage)
     seen.saw_if(!checks.iter().flatten().all(junction), "repeats: of an ending");
     seen.saw_if(touched && !first.solved(first.start), "repeats: partly worked at the outset");
     seen.saw_if(carried_on, "repeats: stopped and carried on");
-    let large = actions(last).any(|action| !groups(action).is_empty() && sum(last, action) > u64::from(u32::MAX));
+    let large = actions(last).any(|action| !groups(action).is_empty() && sum(last, action) > Some(u64::from(u32::MAX)));
     seen.saw_if(large, "repeats: sum above 32 bits");
     if settled(first, last, first.start) {
         count_plan(last, seen);
     }
 }
 
-/// Of a sheet whose start was settled by work: what its plan had.
+/// Of a sheet whose start was settled by work, and not at none: what its plan had.
 fn count_plan(sheet: &Sheet, seen: &mut Coverage) {
     let deep = depth(sheet);
-    if deep == 0 {
-        return;
-    }
-    let price = match &sheet.nodes[sheet.start] {
-        Node::Terminal(cost) => *cost,
-        Node::Decision(actions) => sum(sheet, &actions[sheet.cells[sheet.start].chosen]),
-    };
+    let Some(price) = sheet.chosen(sheet.start).and_then(|chosen| sum(sheet, chosen)).filter(|_| deep > 0) else { return };
     let many = sheet.nodes.len() > FEW_STATES;
     seen.saw_if(price < CEILING, "repeats: worked to settled");
     seen.saw_if(price < CEILING && many, "repeats: worked to settled with more than 256 states");
@@ -89,8 +82,7 @@ fn count_plan(sheet: &Sheet, seen: &mut Coverage) {
 fn depth(sheet: &Sheet) -> usize {
     let mut above = vec![0; sheet.nodes.len()];
     for state in sheet.plan_states() {
-        if let Node::Decision(actions) = &sheet.nodes[state] {
-            let chosen = &actions[sheet.cells[state].chosen];
+        if let Some(chosen) = sheet.chosen(state) {
             chosen.successors.iter().for_each(|&t| above[t] = above[t].max(above[state]));
             groups(chosen).iter().for_each(|&(t, _)| above[t] = above[t].max(above[state] + 1));
         }
@@ -144,13 +136,7 @@ fn before_smaller(list: &[usize]) -> bool {
 
 /// The checks, each with its junction's number.
 fn numbered(sheet: &Sheet) -> impl Iterator<Item = (usize, &Action)> {
-    sheet.nodes.iter().enumerate().flat_map(|(state, node)| {
-        let actions = match node {
-            Node::Terminal(_) => &[],
-            Node::Decision(actions) => &actions[..],
-        };
-        actions.iter().map(move |action| (state, action))
-    })
+    (0..sheet.nodes.len()).flat_map(|state| sheet.actions(state).iter().map(move |action| (state, action)))
 }
 
 /// A junction, one of its checks, and what a finding that it repeats is worth, which is not 0: is the junction's value that far off?
@@ -165,13 +151,13 @@ fn miscounted(sheet: &Sheet, off: Off) -> bool {
 }
 
 fn once_more(sheet: &Sheet, state: usize, action: &Action, worth: u64) -> bool {
-    sheet.cells[state].value == sum(sheet, action) + worth
+    sum(sheet, action).is_some_and(|sum| sheet.cells[state].value == sum + worth)
 }
 
 /// Only where nothing else is wrong with the mark.
 fn once_less(sheet: &Sheet, state: usize, action: &Action, worth: u64) -> bool {
     let all_settled = action.successors.iter().all(|&t| sheet.solved(t));
-    settles(sheet, state, action) && all_settled && sheet.cells[state].value + worth == sum(sheet, action)
+    settles(sheet, state, action) && all_settled && sum(sheet, action) == Some(sheet.cells[state].value + worth)
 }
 
 #[cfg(test)]

@@ -2,6 +2,7 @@
 //! one state too many; damage comes later.
 
 use crate::draft::{size, Action, Draft, Node, CEILING, FEW_STATES, FORMER_MOST, HEAD_BYTES, MOST_STATES, TERMINAL_BYTES};
+use crate::emptied;
 use crate::rng::Rng;
 use std::collections::BTreeSet;
 
@@ -48,7 +49,7 @@ enum Costs {
 
 type Draw = fn(&mut Rng) -> Draft;
 
-pub const SHAPES: [(&str, Draw); 14] = [
+pub const SHAPES: [(&str, Draw); 15] = [
     ("tiny", tiny),
     ("small", small),
     ("medium", medium),
@@ -63,10 +64,11 @@ pub const SHAPES: [(&str, Draw); 14] = [
     ("many stages", many_stages),
     ("chain of repeats", repeated_chain),
     ("repeats at the ceiling", repeats_at_ceiling),
+    ("none beside the ceiling", emptied::beside_ceiling),
 ];
 
 /// How often each shape is drawn: small ones are quick and have the most to show.
-const WEIGHTS: [usize; 14] = [40, 40, 12, 10, 8, 5, 3, 8, 4, 6, 10, 6, 6, 6];
+const WEIGHTS: [usize; 15] = [40, 40, 12, 10, 8, 5, 3, 8, 4, 6, 10, 6, 6, 6, 8];
 
 /// The number of a shape.
 pub fn draw(rng: &mut Rng) -> usize {

@@ -8,7 +8,7 @@ use crate::{Sheet, MOST_STATES};
 const TABLE_BYTES: usize = 4 * MOST_STATES;
 const RESULT_BYTES: usize = 24;
 
-/// What `ldfs_solve` is to do: returns the refusal number, or 100 settled, 101 over, 102 stopped.
+/// What `ldfs_solve` is to do: returns the refusal number, or 100 settled, 101 over, 102 stopped, 103 none.
 pub fn call(sheet: &mut [u8], table: &mut [u8], budget: u64, result: &mut [u8]) -> u32 {
     if result.len() < RESULT_BYTES {
         return 1;
@@ -33,6 +33,7 @@ pub fn call(sheet: &mut [u8], table: &mut [u8], budget: u64, result: &mut [u8]) 
         Outcome::Settled => 100,
         Outcome::Over => 101,
         Outcome::Stopped => 102,
+        Outcome::NoPlan => 103,
     }
 }
 

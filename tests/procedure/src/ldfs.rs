@@ -1,11 +1,12 @@
 //! The driver and the visits of LDFS, with a budget of raises (S6).
 
-use crate::{Sheet, CEILING};
+use crate::{Sheet, CEILING, NONE};
 
-/// How work ended: the start was marked, below or at the ceiling, or the budget ran out.
+/// How work ended: the start was marked, below the ceiling, at it or at none, or the budget ran out (S7.1).
 pub enum Outcome {
     Settled,
     Over,
+    NoPlan,
     Stopped,
 }
 
@@ -33,12 +34,22 @@ pub fn work(sheet: &mut Sheet, budget: u64) -> Work {
         passes += 1;
         match search.visit(start) {
             Ok(false) => continue,
-            Ok(true) if search.sheet.states[start].value < CEILING => break Outcome::Settled,
-            Ok(true) => break Outcome::Over,
+            Ok(true) => break marked(search.sheet.states[start].value),
             Err(OutOfBudget) => break Outcome::Stopped,
         }
     };
     Work { outcome, passes, raises: search.raises }
+}
+
+/// What the value of a marked start says.
+fn marked(value: u64) -> Outcome {
+    if value < CEILING {
+        Outcome::Settled
+    } else if value == CEILING {
+        Outcome::Over
+    } else {
+        Outcome::NoPlan
+    }
 }
 
 impl Search<'_> {
@@ -53,6 +64,12 @@ impl Search<'_> {
             return Ok(true);
         }
         let actions = self.sheet.states[s].actions.len();
+        if actions == 0 {
+            self.update(s, NONE)?;
+            self.sheet.states[s].chosen = 0;
+            self.sheet.states[s].mark = 1;
+            return Ok(true);
+        }
         for a in 0..actions {
             if self.dear(s, a) {
                 continue;
@@ -63,7 +80,7 @@ impl Search<'_> {
                 return Ok(true);
             }
         }
-        let mut least = CEILING;
+        let mut least = NONE;
         for a in 0..actions {
             least = least.min(self.sheet.q_value(s, a));
         }

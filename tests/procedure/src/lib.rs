@@ -2,6 +2,8 @@
 //!
 //! It reads a sheet into lists, works on those and stores them back. It shares no code with the program `sweep`.
 
+#[cfg(test)]
+mod emptied;
 mod host;
 mod ldfs;
 mod listing;
@@ -14,6 +16,9 @@ pub use host::call;
 pub use listing::listing;
 
 pub const CEILING: u64 = 1_000_000_000;
+
+/// The value and the price that say none: there is no complete plan (S2.11).
+pub const NONE: u64 = 1_000_000_001;
 
 /// The most stages of a sheet (S4.3), and the fewest entries of an index table (S4.1).
 pub(crate) const MOST_STATES: usize = 4096;
@@ -29,7 +34,7 @@ pub struct State {
     pub offset: usize,
     /// An ending's cost; a junction has none.
     pub terminal_cost: Option<u64>,
-    /// A junction's checks; an ending has none.
+    /// A junction's checks, of which none may be left (S1.2); an ending has none.
     pub actions: Vec<Action>,
     pub value: u64,
     pub mark: u8,
@@ -44,12 +49,16 @@ pub struct Sheet {
 }
 
 impl Sheet {
-    /// Q_V(a, s): the cost of an action plus the largest, or the sum, of its successors' values, cut to the ceiling.
+    /// Q_V(a, s): none where a successor's value is none; else the cost of an action plus the largest, or the sum, of its successors'
+    /// values, cut to the ceiling (S2.8).
     pub fn q_value(&self, state: usize, action: usize) -> u64 {
         let action = &self.states[state].actions[action];
         let mut joined = 0;
         for &successor in &action.successors {
             let value = self.states[successor].value;
+            if value == NONE {
+                return NONE;
+            }
             joined = if self.kind == 0 { joined.max(value) } else { joined + value };
         }
         (action.cost + joined).min(CEILING)

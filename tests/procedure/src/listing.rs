@@ -15,6 +15,7 @@ pub fn listing(bytes: &[u8]) -> String {
     let (word, lines) = match done.outcome {
         Outcome::Settled => ("settled", plan_lines(&sheet)),
         Outcome::Over => ("over", String::new()),
+        Outcome::NoPlan => ("none", String::new()),
         Outcome::Stopped => ("stopped", String::new()),
     };
     format!("{word} {value} {} {}\n{lines}", done.passes, done.raises)

@@ -1,11 +1,11 @@
 //! Questions 2 to 8 (S4.2 to S4.8), each put to the whole sheet before the next.
 
 use crate::reader::{has_head, number16, read};
-use crate::{Sheet, State, CEILING, MOST_STATES};
+use crate::{Sheet, State, MOST_STATES, NONE};
 
 /// The sheet, or the number of the first question that is answered no.
 pub fn accept(bytes: &[u8]) -> Result<Sheet, u32> {
-    if bytes.len() < 20 || bytes.len() > 60_000 {
+    if bytes.len() < 17 || bytes.len() > 60_000 {
         return Err(2);
     }
     if !has_head(bytes) || bytes[3] > 1 {
@@ -34,7 +34,7 @@ pub fn accept(bytes: &[u8]) -> Result<Sheet, u32> {
 }
 
 fn numbers_in_range(state: &State) -> bool {
-    if state.value > CEILING || state.mark > 1 {
+    if state.value > NONE || state.mark > 1 {
         return false;
     }
     if let Some(cost) = state.terminal_cost {
@@ -45,7 +45,7 @@ fn numbers_in_range(state: &State) -> bool {
             return false;
         }
     }
-    if state.mark == 0 {
+    if state.mark == 0 || state.actions.is_empty() {
         state.chosen == 0
     } else {
         state.chosen < state.actions.len()
@@ -82,6 +82,7 @@ fn mark_earned(sheet: &Sheet, s: usize) -> bool {
     }
     match state.terminal_cost {
         Some(cost) => state.value == cost,
+        None if state.actions.is_empty() => state.value == NONE,
         None => {
             let successors = &state.actions[state.chosen].successors;
             let all_solved = successors.iter().all(|&t| sheet.states[t].mark == 1);

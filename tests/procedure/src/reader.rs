@@ -67,6 +67,7 @@ fn read_state(bytes: &[u8], at: &mut usize) -> Option<State> {
     None
 }
 
+/// The checks that follow a junction's field: 0 to 16.
 fn read_actions(bytes: &[u8], at: &mut usize) -> Option<Vec<Action>> {
     let mut actions = Vec::new();
     while *at < bytes.len() && bytes[*at] == 0x04 {
@@ -78,9 +79,6 @@ fn read_actions(bytes: &[u8], at: &mut usize) -> Option<Vec<Action>> {
         let successors = (*at + 7..end).step_by(2).map(|place| number16(bytes, place)).collect();
         actions.push(Action { cost: number32(bytes, *at + 3), successors });
         *at = end;
-    }
-    if actions.is_empty() {
-        return None;
     }
     Some(actions)
 }

@@ -3,14 +3,33 @@
 //! This program knows nothing of visits, passes or budgets: it solves the Bellman equation directly. It has its own reader of bytes
 //! and shares no code with the program `procedure`.
 
+#[cfg(test)]
+mod emptied;
+mod lost;
 mod reader;
 #[cfg(test)]
 mod repeats;
 
-pub use reader::{fields, read};
+pub use reader::{ask, fields, read};
 
-/// "That much or more": any value or sum above the ceiling counts as the ceiling.
+/// "That much or more": any number above the ceiling counts as the ceiling.
 pub const CEILING: u64 = 1_000_000_000;
+
+/// How none is written (S2.11).
+pub const NONE: u64 = 1_000_000_001;
+
+/// A cost, cut to the ceiling, or none (S2.3, S2.5). Cut at every state it comes to the same as cut at the last.
+pub type Cost = Option<u64>;
+
+/// A cost as it is compared with values (S2.7, S2.11).
+pub fn written(cost: Cost) -> u64 {
+    cost.unwrap_or(NONE)
+}
+
+/// The cost that a value stands for.
+pub fn meant(value: u64) -> Cost {
+    (value != NONE).then_some(value)
+}
 
 /// A check: its cost, and the states that its findings lead to, each as often as it is listed (S2.10).
 pub struct Action {
@@ -18,7 +37,7 @@ pub struct Action {
     pub successors: Vec<usize>,
 }
 
-/// An ending with its cost, or a junction with its checks.
+/// An ending with its cost, or a junction with its checks, of which none may be left (S1.2).
 pub enum Node {
     Terminal(u64),
     Decision(Vec<Action>),
@@ -44,32 +63,44 @@ impl Sheet {
         self.cells[state].mark == 1
     }
 
-    /// The q-value of an action, for any value of each successor, cut to the ceiling.
-    pub fn q_value(&self, action: &Action, value_of: impl Fn(usize) -> u64) -> u64 {
-        let values = action.successors.iter().map(|&t| value_of(t));
-        let joined = if self.whole { values.sum() } else { values.max().unwrap_or(0) };
-        CEILING.min(action.cost + joined)
+    /// A junction's checks; a terminal has none.
+    pub fn actions(&self, state: usize) -> &[Action] {
+        match &self.nodes[state] {
+            Node::Terminal(_) => &[],
+            Node::Decision(actions) => actions,
+        }
     }
 
-    /// The price of a check: its q-value by the current values.
+    /// Is the state a junction that has no checks?
+    pub fn emptied(&self, state: usize) -> bool {
+        matches!(&self.nodes[state], Node::Decision(actions) if actions.is_empty())
+    }
+
+    /// The chosen check of a junction, where it has that check.
+    pub fn chosen(&self, state: usize) -> Option<&Action> {
+        self.actions(state).get(self.cells[state].chosen)
+    }
+
+    /// The q-value of an action, for any cost of each successor, cut to the ceiling: none where one of them is none.
+    pub fn q_value(&self, action: &Action, cost_of: impl Fn(usize) -> Cost) -> Cost {
+        let costs: Vec<u64> = action.successors.iter().map(|&t| cost_of(t)).collect::<Option<_>>()?;
+        let joined = if self.whole { costs.iter().sum() } else { costs.into_iter().max().unwrap_or(0) };
+        Some(CEILING.min(action.cost + joined))
+    }
+
+    /// The price of a check: its q-value by the current values, as it is written (S2.8).
     pub fn price(&self, action: &Action) -> u64 {
-        self.q_value(action, |t| self.cells[t].value)
+        written(self.q_value(action, |t| meant(self.cells[t].value)))
     }
 
-    /// The least cost of every state, cut to the ceiling.
-    pub fn least_costs(&self) -> Vec<u64> {
-        self.backwards(|_, actions, costs| {
-            let q_values = actions.iter().map(|a| self.q_value(a, |t| costs[t]));
-            q_values.min().unwrap_or(CEILING)
-        })
+    /// The least cost of every state (S2.5). None is more than any number, and the least of no checks is none.
+    pub fn least_costs(&self) -> Vec<Cost> {
+        self.backwards(|state, costs| self.actions(state).iter().filter_map(|a| self.q_value(a, |t| costs[t])).min())
     }
 
-    /// What the written plan costs at every state, cut to the ceiling. The plan takes the chosen action at every decision.
-    pub fn plan_costs(&self) -> Vec<u64> {
-        self.backwards(|state, actions, costs| {
-            let chosen = &actions[self.cells[state].chosen];
-            self.q_value(chosen, |t| costs[t])
-        })
+    /// What the written plan costs at every state (S2.3). The plan takes the chosen action at every decision that has it.
+    pub fn plan_costs(&self) -> Vec<Cost> {
+        self.backwards(|state, costs| self.q_value(self.chosen(state)?, |t| costs[t]))
     }
 
     /// The states that the written plan reaches from the start, ascending.
@@ -77,8 +108,8 @@ impl Sheet {
         let mut reached = vec![false; self.nodes.len()];
         reached[self.start] = true;
         for state in self.start..self.nodes.len() {
-            if let (true, Node::Decision(actions)) = (reached[state], &self.nodes[state]) {
-                for &successor in &actions[self.cells[state].chosen].successors {
+            if let (true, Some(chosen)) = (reached[state], self.chosen(state)) {
+                for &successor in &chosen.successors {
                     reached[successor] = true;
                 }
             }
@@ -87,12 +118,12 @@ impl Sheet {
     }
 
     /// The sweep. Successors have larger numbers, so their costs are there when a decision's turn comes.
-    fn backwards(&self, decide: impl Fn(usize, &[Action], &[u64]) -> u64) -> Vec<u64> {
-        let mut costs = vec![0; self.nodes.len()];
+    fn backwards(&self, decide: impl Fn(usize, &[Cost]) -> Cost) -> Vec<Cost> {
+        let mut costs = vec![None; self.nodes.len()];
         for state in (0..self.nodes.len()).rev() {
             costs[state] = match &self.nodes[state] {
-                Node::Terminal(cost) => CEILING.min(*cost),
-                Node::Decision(actions) => decide(state, actions, &costs),
+                Node::Terminal(cost) => Some(CEILING.min(*cost)),
+                Node::Decision(_) => decide(state, &costs),
             };
         }
         costs
@@ -101,25 +132,25 @@ impl Sheet {
 
 #[cfg(test)]
 mod tests {
-    use super::read;
+    use super::{read, Cost};
 
-    fn least_cost(bytes: &[u8]) -> Result<u64, u32> {
+    fn least_cost(bytes: &[u8]) -> Result<Cost, u32> {
         read(bytes).map(|sheet| sheet.least_costs()[sheet.start])
     }
 
     #[test]
     fn least_costs_of_the_worked_examples() {
-        assert_eq!(least_cost(include_bytes!("../../../samples/a.sheet")), Ok(500));
-        assert_eq!(least_cost(include_bytes!("../../../samples/b-worst.sheet")), Ok(150));
-        assert_eq!(least_cost(include_bytes!("../../../samples/b-whole.sheet")), Ok(180));
-        assert_eq!(least_cost(include_bytes!("../../../samples/c-worst.sheet")), Ok(50));
-        assert_eq!(least_cost(include_bytes!("../../../samples/c-whole.sheet")), Ok(120));
+        assert_eq!(least_cost(include_bytes!("../../../samples/a.sheet")), Ok(Some(500)));
+        assert_eq!(least_cost(include_bytes!("../../../samples/b-worst.sheet")), Ok(Some(150)));
+        assert_eq!(least_cost(include_bytes!("../../../samples/b-whole.sheet")), Ok(Some(180)));
+        assert_eq!(least_cost(include_bytes!("../../../samples/c-worst.sheet")), Ok(Some(50)));
+        assert_eq!(least_cost(include_bytes!("../../../samples/c-whole.sheet")), Ok(Some(120)));
     }
 
     #[test]
     fn least_costs_of_the_largest_samples() {
-        assert_eq!(least_cost(include_bytes!("../../../samples/stages-4096.sheet")), Ok(4195));
-        assert_eq!(least_cost(include_bytes!("../../../samples/deep.sheet")), Ok(3332));
+        assert_eq!(least_cost(include_bytes!("../../../samples/stages-4096.sheet")), Ok(Some(4195)));
+        assert_eq!(least_cost(include_bytes!("../../../samples/deep.sheet")), Ok(Some(3332)));
     }
 
     #[test]

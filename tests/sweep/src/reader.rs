@@ -1,6 +1,10 @@
 //! Reading a sheet: fields are taken off the front of the bytes, one after another. Questions 2 to 8 are answered on the way.
 
-use crate::{Action, Cell, Node, Sheet, CEILING};
+use crate::{Action, Cell, Node, Sheet, NONE};
+
+/// The fewest bytes of a sheet, and the most (S4.2).
+const LEAST_BYTES: usize = 17;
+const MOST_BYTES: usize = 60_000;
 
 /// The most states of a sheet (S4.3).
 const MOST_STATES: usize = 4096;
@@ -11,18 +15,24 @@ type Question = fn(&Sheet, usize) -> bool;
 /// The sheet that the bytes say, or the number of the first of questions 2 to 8 whose answer is no.
 pub fn read(bytes: &[u8]) -> Result<Sheet, u32> {
     let sheet = fields(bytes)?;
+    ask(&sheet)?;
+    Ok(sheet)
+}
+
+/// Questions 5 to 8, of a sheet whose fields are in place: the number of the first whose answer is no.
+pub fn ask(sheet: &Sheet) -> Result<(), u32> {
     let questions: [(u32, Question); 4] = [(5, in_range), (6, in_order), (7, not_above), (8, earned)];
     for (number, passes) in questions {
-        if !(0..sheet.nodes.len()).all(|state| passes(&sheet, state)) {
+        if !(0..sheet.nodes.len()).all(|state| passes(sheet, state)) {
             return Err(number);
         }
     }
-    Ok(sheet)
+    Ok(())
 }
 
 /// The same by questions 2 to 4 alone: the fields are in place, and their numbers may be any.
 pub fn fields(bytes: &[u8]) -> Result<Sheet, u32> {
-    if bytes.len() < 20 || bytes.len() > 60_000 {
+    if !(LEAST_BYTES..=MOST_BYTES).contains(&bytes.len()) {
         return Err(2);
     }
     let (whole, count, start, rest) = head(bytes).ok_or(3u32)?;
@@ -87,7 +97,7 @@ fn decision<'a>(content: &[u8], mut after: &'a [u8]) -> Option<(Node, Cell, &'a 
         after = rest;
     }
     let cell = Cell { value: number(&content[..4]), mark: content[4], chosen: content[5] as usize };
-    (1..=16).contains(&actions.len()).then_some((Node::Decision(actions), cell, after))
+    (actions.len() <= 16).then_some((Node::Decision(actions), cell, after))
 }
 
 fn action(content: &[u8]) -> Option<Action> {
@@ -98,14 +108,14 @@ fn action(content: &[u8]) -> Option<Action> {
     Some(Action { cost: number(&content[..4]), successors })
 }
 
-/// Question 5: costs, value, mark and chosen check are in their ranges.
+/// Question 5: costs, value, mark and chosen check are in their ranges. Where there is nothing to choose from, 0 is chosen.
 fn in_range(sheet: &Sheet, state: usize) -> bool {
     let cell = &sheet.cells[state];
-    let cell_fits = cell.value <= CEILING && cell.mark <= 1;
+    let cell_fits = cell.value <= NONE && cell.mark <= 1;
     let node_fits = match &sheet.nodes[state] {
         Node::Terminal(cost) => *cost <= 1_000_000,
         Node::Decision(actions) => {
-            let choices = if cell.mark == 0 { 1 } else { actions.len() };
+            let choices = if cell.mark == 0 { 1 } else { actions.len().max(1) };
             cell.chosen < choices && actions.iter().all(|a| (1..=1_000_000).contains(&a.cost))
         }
     };
@@ -114,7 +124,7 @@ fn in_range(sheet: &Sheet, state: usize) -> bool {
 
 /// Question 6: successors ascend, from above the state's own number to below the number of states; whole sheets may repeat one.
 fn in_order(sheet: &Sheet, state: usize) -> bool {
-    actions_of(sheet, state).iter().all(|action| {
+    sheet.actions(state).iter().all(|action| {
         let numbers = &action.successors;
         let ascending = numbers.windows(2).all(|pair| pair[0] < pair[1] || sheet.whole && pair[0] == pair[1]);
         ascending && numbers.iter().all(|&t| state < t && t < sheet.nodes.len())
@@ -130,7 +140,7 @@ fn not_above(sheet: &Sheet, state: usize) -> bool {
     }
 }
 
-/// Question 8: a mark is earned, by the cost or by the chosen check, whose findings are all settled.
+/// Question 8: a mark is earned, by the cost, by none where there are no checks, or by the chosen check, whose findings are all settled.
 fn earned(sheet: &Sheet, state: usize) -> bool {
     let cell = &sheet.cells[state];
     if cell.mark == 0 {
@@ -138,16 +148,10 @@ fn earned(sheet: &Sheet, state: usize) -> bool {
     }
     match &sheet.nodes[state] {
         Node::Terminal(cost) => cell.value == *cost,
+        Node::Decision(actions) if actions.is_empty() => cell.value == NONE,
         Node::Decision(actions) => {
             let chosen = &actions[cell.chosen];
             cell.value == sheet.price(chosen) && chosen.successors.iter().all(|&t| sheet.solved(t))
         }
-    }
-}
-
-fn actions_of(sheet: &Sheet, state: usize) -> &[Action] {
-    match &sheet.nodes[state] {
-        Node::Terminal(_) => &[],
-        Node::Decision(actions) => actions,
     }
 }

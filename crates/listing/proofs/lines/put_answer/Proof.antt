@@ -37,6 +37,15 @@ slice-aggregate-put-figures-3 c = search needs
 put-figures-requires-3 : tie.Need-put-figures-requires-3
 put-figures-requires-3 c κs = search needs
 
+enum-told-4 : tie.Need-enum-told-4
+enum-told-4 c = search needs
+
+slice-aggregate-put-figures-4 : tie.Need-slice-aggregate-put-figures-4
+slice-aggregate-put-figures-4 c = search needs
+
+put-figures-requires-4 : tie.Need-put-figures-requires-4
+put-figures-requires-4 c κs = search needs
+
 same-length : tie.Need-same-length
 same-length c = search needs
 
@@ -73,6 +82,15 @@ returns-4 c =
     let (text, end) = put .put-figures3 .ensures in
     (rw (put .before .before .before .enum-told3 .given .1) text, omega (arith, end))
 
+same-length-5 : tie.Need-same-length-5
+same-length-5 c = search needs
+
+returns-5 : tie.Need-returns-5
+returns-5 c =
+    let put = c .before .before in
+    let (text, end) = put .put-figures4 .ensures in
+    (rw (put .before .before .before .enum-told4 .given .1) text, omega (arith, end))
+
 pub put-answer-spec : {M : Type 1} → statement M
 put-answer-spec =
     tie.close
@@ -88,6 +106,9 @@ put-answer-spec =
     enum-told-3
     slice-aggregate-put-figures-3
     put-figures-requires-3
+    enum-told-4
+    slice-aggregate-put-figures-4
+    put-figures-requires-4
     same-length
     returns
     same-length-2
@@ -95,4 +116,6 @@ put-answer-spec =
     same-length-3
     returns-3
     same-length-4
-    returns-4)
+    returns-4
+    same-length-5
+    returns-5)

@@ -45,10 +45,13 @@ returns c =
     (wrote-newline end _ (put .put-word .ensures), omega (arith, put .put-word .ensures .behind))
 
 chosen-action-requires : tie.Need-chosen-action-requires
-chosen-action-requires c κs = (decided c, chosen-exists (start-of (c .before) .pre .0) (decided c))
+chosen-action-requires c κs =
+    let pre = start-of (c .before) .pre in (decided c, chosen-exists (pre .0) (decided c) (pre .1 .1 .0))
 
 price-requires : tie.Need-price-requires
-price-requires c κs = chosen-priced (start-of (c .before .before) .pre .0) (decided (c .before)) _ (c .chosen-action .ensures)
+price-requires c κs =
+    let pre = start-of (c .before .before) .pre in
+    chosen-priced (pre .0) (decided (c .before)) (pre .1 .1 .0) _ (c .chosen-action .ensures)
 
 slice-aggregate-put-field : tie.Need-slice-aggregate-put-field
 slice-aggregate-put-field c = search needs
@@ -72,7 +75,7 @@ returns-2 c =
     let x = put .before .before .before in
     let at = x .before in
     let st = start-of (at .before .before) in
-    let found = chosen-successors (st .pre .0) (decided (at .before)) _ (at .chosen-action .ensures) in
+    let found = chosen-successors (st .pre .0) (decided (at .before)) (st .pre .1 .1 .0) _ (at .chosen-action .ensures) in
     let named = x .price .ensures .2 ∙ ap (dearest (valueOf (cellsOf (st .args .sheet .now)))) found in
     let (by-is, by-end) = put .put-field .ensures in (
       wrote-by (decided (at .before)) named (wrote-behind by-is (end .put-word2 .ensures)),

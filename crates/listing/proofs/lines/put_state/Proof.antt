@@ -9,12 +9,15 @@ use Rattle.listing.proofs.Reaching.{state-within}
 use Rattle.listing.proofs.lines.put_state.Statement.{statement}
 use Rattle.listing.proofs.lines.put_state.Tie as tie
 
--- the call, from where its number has been written; that place, from where the choice has been
+-- the call, from where its number has been written; that place, from where the choice has been; that, from where the value has been
 abbrev start-of : tie.After-put-choice-arg → tie.Start
 start-of c = c .before .before .before .before .before .before .before .before .before
 
 abbrev number-of : tie.After-put-field-arg4 → tie.After-put-choice-arg
 number-of c = c .before .before .before .before .before
+
+abbrev value-of : tie.After-put-line-end-arg → tie.After-put-field-arg4
+value-of c = c .before .before .before .before .before .before
 
 -- the state is one of the sheet's
 within : (c : tie.After-put-choice-arg) → let a = start-of c .args in Within (a .sheet .now) (a .table .now) (a .state)
@@ -43,7 +46,8 @@ put-field-requires-2 : tie.Need-put-field-requires-2
 put-field-requires-2 c κs = search needs
 
 put-line-end-requires : tie.Need-put-line-end-requires
-put-line-end-requires c κs = search needs
+put-line-end-requires c κs =
+    let pre = start-of (number-of (value-of c)) .pre in (pre .0, (pre .1 .0, (pre .1 .1 .0, search needs)))
 
 same-length : tie.Need-same-length
 same-length c = search needs

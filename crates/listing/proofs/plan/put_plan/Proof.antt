@@ -35,6 +35,9 @@ enum-told-3 c = search needs
 enum-told-4 : tie.Need-enum-told-4
 enum-told-4 c = search needs
 
+enum-told-5 : tie.Need-enum-told-5
+enum-told-5 c = search needs
+
 same-length : tie.Need-same-length
 same-length c = search needs
 
@@ -51,6 +54,9 @@ returns-3 c = rw (c .enum-told3 .given .1) (wrote-none _ _ (omega arith))
 returns-4 : tie.Need-returns-4
 returns-4 c = rw (c .enum-told4 .given .1) (wrote-none _ _ (omega arith))
 
+returns-5 : tie.Need-returns-5
+returns-5 c = rw (c .enum-told5 .given .1) (wrote-none _ _ (omega arith))
+
 pub put-plan-spec : {M : Type 1} → statement M
 put-plan-spec =
     tie.close
@@ -61,8 +67,10 @@ put-plan-spec =
     enum-told-2
     enum-told-3
     enum-told-4
+    enum-told-5
     same-length
     returns
     returns-2
     returns-3
-    returns-4)
+    returns-4
+    returns-5)

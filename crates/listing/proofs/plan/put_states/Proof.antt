@@ -3,10 +3,12 @@
 -- `loop-again`; one before the loop lengthens `start-of`.
 use Prim.Native.Nat.{_-_}
 use mathlib.Core.Logic.{⊎-elim}
-use mathlib.Core.Path.{refl}
+use mathlib.Core.Path.{refl, sym, _∙_}
 use native.Mathlib.Omega.{arith}
 use lib.ListN.{length}
 use Rattle.model.specs.Read.{problemOf, cellsOf}
+use Rattle.listing.specs.Put.{Chooses}
+use Rattle.listing.proofs.Planned.{reached-chooses}
 use Rattle.listing.proofs.Writing.{wrote-length}
 use Rattle.listing.proofs.Reaching.{Lined, lined-none, lined-all, lined-room, lined-state, lined-skip}
 use Rattle.listing.proofs.plan.put_states.Statement.{statement}
@@ -37,18 +39,27 @@ slice-read-if1 : tie.Need-slice-read-if1 Inv-loop μ-loop
 slice-read-if1 c =
     let L = c .before .before in omega (arith, L .loop .inv .wide, start-of L .pre .1 .0 .1)
 
+-- the plan reaches the state whose flag is up, so its chosen action exists
+chooses : (c : tie.Then1 Inv-loop μ-loop) → let L = loop-of c in let a = start-of L .args in
+    Chooses (problemOf (a .sheet .now)) (cellsOf (a .sheet .now)) (L .loop .s)
+chooses c =
+    let L = loop-of c in
+    let flag = sym (L .loop .inv .up _ (c .before .before .loop-test .taken)) ∙ c .if1 .taken in
+    reached-chooses _ _ (start-of L .pre .0 .complete) _ _ flag
+
 put-state-requires : tie.Need-put-state-requires Inv-loop μ-loop
 put-state-requires c κs =
     let L = loop-of (c .before) in
     let pre = start-of L .pre in
     let below = c .before .before .before .loop-test .taken in
-    (pre .0, (omega (arith, pre .1 .0 .0), lined-room _ _ _ _ _ _ (L .loop .inv) below (pre .1 .1 .1)))
+    (pre .0, (omega (arith, pre .1 .0 .0), (chooses (c .before), lined-room _ _ _ _ _ _ (L .loop .inv) below (pre .1 .1 .1))))
 
 reach-on-requires : tie.Need-reach-on-requires Inv-loop μ-loop
 reach-on-requires c κs =
-    let L = loop-of (up-of (c .before .before .before)) in
+    let up = up-of (c .before .before .before) in
+    let L = loop-of up in
     let pre = start-of L .pre in
-    (pre .0, (omega (arith, pre .1 .0 .0), omega (arith, pre .1 .0, L .loop .inv .wide)))
+    (pre .0, ((omega (arith, pre .1 .0 .0), omega (arith, pre .1 .0, L .loop .inv .wide)), chooses up))
 
 add-s : tie.Need-add-s Inv-loop μ-loop
 add-s c = omega arith

@@ -17,27 +17,28 @@ start-of c = c .before .before .before .before
 decided : (c : tie.Else1) → let a = start-of (c .before) .args in Decision (a .sheet .now) (a .table .now) (a .state)
 decided c =
     let pre = start-of (c .before) .pre in
-    decision-from (state-within (pre .0) (pre .1 .0)) _ (c .before .is-terminal .ensures) (c .if1 .left)
+    decision-from (state-within (pre .0) (pre .1 .0 .0)) _ (c .before .is-terminal .ensures) (c .if1 .left)
 
 is-terminal-requires : tie.Need-is-terminal-requires
 is-terminal-requires c κs =
-    let pre = c .before .before .before .pre in state-within (pre .0) (pre .1 .0)
+    let pre = c .before .before .before .pre in state-within (pre .0) (pre .1 .0 .0)
 
 returns : tie.Need-returns
 returns c =
     let pre = start-of (c .before) .pre in
-    let end = terminal-from (state-within (pre .0) (pre .1 .0)) _ (c .before .is-terminal .ensures) (c .if1 .taken) in
+    let end = terminal-from (state-within (pre .0) (pre .1 .0 .0)) _ (c .before .is-terminal .ensures) (c .if1 .taken) in
     sym (ap (flagged _) (no-successors end) ∙ flagged-none _)
 
 chosen-action-requires : tie.Need-chosen-action-requires
-chosen-action-requires c κs = (decided c, chosen-exists (start-of (c .before) .pre .0) (decided c))
+chosen-action-requires c κs =
+    let pre = start-of (c .before) .pre in (decided c, chosen-exists (pre .0) (decided c) (pre .1 .1))
 
 flag-all-requires : tie.Need-flag-all-requires
 flag-all-requires c κs =
     let at = c .before in
-    let (w, within) = start-of (at .before .before) .pre in
-    let priced = chosen-priced w (decided (at .before)) _ (at .chosen-action .ensures) in
-    (priced .fits, λ j lt. omega (arith, priced .below j lt, within .1))
+    let pre = start-of (at .before .before) .pre in
+    let priced = chosen-priced (pre .0) (decided (at .before)) (pre .1 .1) _ (at .chosen-action .ensures) in
+    (priced .fits, λ j lt. omega (arith, priced .below j lt, pre .1 .0 .1))
 
 same-length : tie.Need-same-length
 same-length c = search needs
@@ -46,7 +47,8 @@ returns-2 : tie.Need-returns-2
 returns-2 c =
     let flagging = c .before .before in
     let at = flagging .before .before in
-    let found = chosen-successors (start-of (at .before .before) .pre .0) (decided (at .before)) _ (at .chosen-action .ensures) in
+    let pre = start-of (at .before .before) .pre in
+    let found = chosen-successors (pre .0) (decided (at .before)) (pre .1 .1) _ (at .chosen-action .ensures) in
     flagging .flag-all .ensures ∙ ap (flagged _) found
 
 pub reach-on-spec : {M : Type 1} → statement M

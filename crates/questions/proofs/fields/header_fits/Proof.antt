@@ -2,7 +2,7 @@
 use mathlib.Core.Path.{_≡_, _∙_, sym}
 use borrow.Author.Needs.{needs}
 use lib.ListN.{getD}
-use Rattle.questions.proofs.Reading.{header-yes, header-short, header-length, header-tag}
+use Rattle.questions.proofs.Reading.{header-yes, header-length, header-tag}
 use Rattle.questions.proofs.fields.header_fits.Statement.{statement}
 use Rattle.questions.proofs.fields.header_fits.Tie as tie
 
@@ -23,39 +23,24 @@ byte-at-requires c κs = search needs
 content-at-requires : tie.Need-content-at-requires
 content-at-requires c κs = search needs
 
-add-if3 : tie.Need-add-if3
-add-if3 c = search needs
-
-add-byte-at : tie.Need-add-byte-at
-add-byte-at c = search needs
-
-byte-at-requires-2 : tie.Need-byte-at-requires-2
-byte-at-requires-2 c κs = search needs
+add-result : tie.Need-add-result
+add-result c = search needs
 
 returns : tie.Need-returns
 returns c =
-    let content = c .before .before .before in
+    let content = c .before in
     let tagged = tagged-of content in
     let st = start-of tagged in
-    let fits = header-yes (st .args .s .now) (st .args .at) _ (st .pre .0) (content .content-at .ensures .0) (three tagged) in
-    fits (c .before .before .if2 .taken) (c .before .if3 .taken) _ (c .byte-at2 .ensures)
+    header-yes (st .args .s .now) (st .args .at) _ (st .pre .0) (content .content-at .ensures .0) (three tagged) (c .if2 .taken)
 
 returns-2 : tie.Need-returns-2
 returns-2 c =
-    let content = c .before .before in
-    let tagged = tagged-of content in
-    let st = start-of tagged in
-    let short = header-short (st .args .s .now) (st .args .at) _ (st .pre .0) (content .content-at .ensures .0) (three tagged) in
-    short (c .before .if2 .taken) (c .if3 .left)
-
-returns-3 : tie.Need-returns-3
-returns-3 c =
     let tagged = tagged-of (c .before) in
     let st = start-of tagged in
     header-length (st .args .s .now) (st .args .at) _ (st .pre .0) (c .before .content-at .ensures .0) (three tagged) (c .if2 .left)
 
-returns-4 : tie.Need-returns-4
-returns-4 c =
+returns-3 : tie.Need-returns-3
+returns-3 c =
     let st = c .before .before .before in
     header-tag (st .args .s .now) (st .args .at) (λ e. c .if1 .left (c .before .byte-at .ensures ∙ e))
 
@@ -65,10 +50,7 @@ header-fits-spec =
     (tie.spec
     byte-at-requires
     content-at-requires
-    add-if3
-    add-byte-at
-    byte-at-requires-2
+    add-result
     returns
     returns-2
-    returns-3
-    returns-4)
+    returns-3)

@@ -63,14 +63,14 @@ returns c =
     let read = c .before in
     let L = loop-of (here-of read) in
     let low = cost-low _ (rw (cost-is read) at (c .if2 .taken)) in
-    (counted-none (start-of L .pre) (L .loop .n) (stands (here-of read)) low, omega arith)
+    counted-none (start-of L .pre) (L .loop .n) (stands (here-of read)) low
 
 returns-2 : tie.Need-returns-2 Inv-loop μ-loop
 returns-2 c =
     let read = c .before .before in
     let L = loop-of (here-of read) in
     let high = cost-high _ (rw (cost-is read) at (c .before .if2 .left)) (rw (cost-is read) at (c .if3 .taken)) in
-    (counted-none (start-of L .pre) (L .loop .n) (stands (here-of read)) high, omega arith)
+    counted-none (start-of L .pre) (L .loop .n) (stands (here-of read)) high
 
 next-action-requires : tie.Need-next-action-requires Inv-loop μ-loop
 next-action-requires c κs =
@@ -100,7 +100,7 @@ returns-3 c =
     let d = start-of L .pre in
     let (along, passed) = L .loop .inv in
     let ends = along-ends d along _ (c .before .action-here .ensures) (c .if1 .left) in
-    (counted-all d (L .loop .n) passed (along .upto) ends, omega (arith, along .upto, few d))
+    counted-all d (L .loop .n) passed (along .upto) ends
 
 pub count-in-range-spec : {M : Type 1} → statement M
 count-in-range-spec =

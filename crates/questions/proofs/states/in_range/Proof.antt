@@ -6,8 +6,8 @@ use Rattle.model.specs.Problem.{cellOf}
 use Rattle.model.specs.Read.{cellsOf}
 use Rattle.sheet.specs.Sheet.{Terminal, Decision}
 use Rattle.sheet.proofs.Laws.{is-terminal, is-decision}
-use Rattle.questions.proofs.Stepping.{some, terminal-from, decision-from}
-use Rattle.questions.proofs.Ranges.{value-out, mark-out, terminal-range, count-out, solved-range, open-range}
+use Rattle.questions.proofs.Stepping.{few, terminal-from, decision-from}
+use Rattle.questions.proofs.Ranges.{value-out, mark-out, terminal-range, count-out, zero-range, solved-range, open-range}
 use Rattle.questions.proofs.states.in_range.Statement.{statement}
 use Rattle.questions.proofs.states.in_range.Tie as tie
 
@@ -29,7 +29,7 @@ abbrev else-of : tie.After-word-to-index → tie.Else3
 else-of c = c .before .before .before .before .before
 
 -- the value and the mark are in range
-low : (c : tie.Else1) → let a = start-of (c .before) .args in cellOf (cellsOf (a .sheet .now)) (a .state) .value ≤ 1000000000
+low : (c : tie.Else1) → let a = start-of (c .before) .args in cellOf (cellsOf (a .sheet .now)) (a .state) .value ≤ 1000000001
 low c = rw (c .before .value-at .ensures) at (c .if1 .left)
 
 bit : (c : tie.Else2) → let a = start-of (value-of c) .args in cellOf (cellsOf (a .sheet .now)) (a .state) .mark ≤ 1
@@ -80,7 +80,7 @@ returns-4 : tie.Need-returns-4
 returns-4 c =
     let no = c .before .before in
     let marked = marked-of no in
-    count-out _ _ (low (valued-of marked)) (bit marked) (some (decided no)) _ (c .before .count-in-range .ensures .0) (c .if4 .taken)
+    count-out _ _ (low (valued-of marked)) (bit marked) (few (decided no)) _ (c .before .count-in-range .ensures) (c .if4 .taken)
 
 chosen-at-requires : tie.Need-chosen-at-requires
 chosen-at-requires c κs = decided (c .before .before)
@@ -97,17 +97,28 @@ returns-5 c =
     let counted = at .before .before .before in
     let marked = marked-of (else-of at) in
     let d = decided (else-of at) in
-    let ranged = solved-range _ _ (low (valued-of marked)) (bit marked) (some d) _ (counted .before .count-in-range .ensures .0) in
-    ranged (is-decision _ (d .tag)) (counted .if4 .left) _ (chosen at) (sym (marked .before .mark-at .ensures) ∙ c .if5 .taken)
+    let ranged = zero-range _ _ (low (valued-of marked)) (bit marked) (few d) _ (counted .before .count-in-range .ensures) in
+    ranged (is-decision _ (d .tag)) (counted .if4 .left) _ (chosen at) (c .if5 .taken)
 
 returns-6 : tie.Need-returns-6
 returns-6 c =
-    let at = c .before in
+    let at = c .before .before in
     let counted = at .before .before .before in
     let marked = marked-of (else-of at) in
     let d = decided (else-of at) in
-    let ranged = open-range _ _ (low (valued-of marked)) (bit marked) (some d) _ (counted .before .count-in-range .ensures .0) in
-    ranged (is-decision _ (d .tag)) (counted .if4 .left) _ (chosen at) (λ z. c .if5 .left (marked .before .mark-at .ensures ∙ z))
+    let ranged = solved-range _ _ (low (valued-of marked)) (bit marked) (few d) _ (counted .before .count-in-range .ensures) in
+    ranged (is-decision _ (d .tag)) (counted .if4 .left) _ (chosen at) (c .before .if5 .left)
+    (sym (marked .before .mark-at .ensures) ∙ c .if6 .taken)
+
+returns-7 : tie.Need-returns-7
+returns-7 c =
+    let at = c .before .before in
+    let counted = at .before .before .before in
+    let marked = marked-of (else-of at) in
+    let d = decided (else-of at) in
+    let ranged = open-range _ _ (low (valued-of marked)) (bit marked) (few d) _ (counted .before .count-in-range .ensures) in
+    ranged (is-decision _ (d .tag)) (counted .if4 .left) _ (chosen at) (c .before .if5 .left)
+    (λ z. c .if6 .left (marked .before .mark-at .ensures ∙ z))
 
 pub in-range-spec : {M : Type 1} → statement M
 in-range-spec =
@@ -126,4 +137,5 @@ in-range-spec =
     byte-to-word-requires
     word-to-index-requires
     returns-5
-    returns-6)
+    returns-6
+    returns-7)

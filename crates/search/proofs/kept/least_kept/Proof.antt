@@ -1,7 +1,7 @@
 -- The fresh price where it is the least, else all are priced. A call put before the test lengthens `pre`.
 use native.Mathlib.Omega.{arith}
 use borrow.Author.Needs.{needs}
-use Rattle.sheet.proofs.Laws.{few-actions}
+use Rattle.theory.proofs.QValueLaws.{q-small}
 use Rattle.search.proofs.Keeping.{keeps-least}
 use Rattle.search.proofs.kept.least_kept.Statement.{statement}
 use Rattle.search.proofs.kept.least_kept.Tie as tie
@@ -12,8 +12,7 @@ least-price-requires c κs = search needs
 returns : tie.Need-returns
 returns c =
     let pre = c .before .before .before .before .pre in
-    let d = pre .0 in
-    keeps-least (pre .1 .1) (few-actions (d .within .sheet) _ (d .within .below) (d .tag) .0) (λ a. omega arith) (omega arith)
+    keeps-least (pre .1 .1 .1) (pre .1 .0) (q-small _ _) (omega arith)
 
 returns-2 : tie.Need-returns-2
 returns-2 c = search needs

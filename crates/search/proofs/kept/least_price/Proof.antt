@@ -2,7 +2,7 @@
 -- A line of code put into the loop lengthens `loop-of` by a `.before`, one before the loop lengthens `start-of`.
 use Prim.Native.Nat.{ℕ, _+_, _-_, _<_, _≤_, min}
 use mathlib.Core.List.{List}
-use mathlib.Core.Path.{_≡_, sym, ap, _∙_}
+use mathlib.Core.Path.{_≡_, refl, sym, ap, _∙_}
 use native.Mathlib.Omega.{arith}
 use borrow.Author.Needs.{needs}
 use lib.ListN.{length}
@@ -11,8 +11,8 @@ use Rattle.model.specs.Problem.{Action, valueOf}
 use Rattle.model.specs.Limits.{ceiling}
 use Rattle.model.specs.QValue.{q, least}
 use Rattle.model.specs.Read.{problemOf, cellsOf}
-use Rattle.sheet.proofs.Laws.{actionsAt, few-actions, action-stands, action-ends}
-use Rattle.sheet.proofs.Joining.{leastSoFar, least-begin, least-turn, least-end}
+use Rattle.sheet.proofs.Laws.{actionsAt, action-stands, action-ends}
+use Rattle.sheet.proofs.Joining.{leastSoFar, least-turn, least-end}
 use Rattle.search.proofs.Actions.{Turn, turn-is, turn-fits, turn-priced, turn-next}
 use Rattle.search.proofs.kept.least_price.Statement.{statement}
 use Rattle.search.proofs.kept.least_price.Tie as tie
@@ -44,7 +44,7 @@ start-of c = c .before .before .before .before
 turn-at : (c : tie.At-loop Inv-loop μ-loop) →
     let a = start-of c .args in Turn (problemOf (a .sheet .now)) (a .state) (c .loop .inv .0) (c .loop .at)
 turn-at c =
-    let (d, w) = start-of c .pre in
+    let (d, (some, w)) = start-of c .pre in
     record { formed = w .formed; below = d .within .below; tag = d .tag; exists = c .loop .inv .1; place = c .loop .inv .2 .0 }
 
 -- the next one's place, and the least price with this one's
@@ -67,9 +67,7 @@ first-action-requires c κs = search needs
 loop-holds : tie.Need-loop-holds Inv-loop μ-loop
 unfolding ceiling
 loop-holds c =
-    let d = c .before .before .before .pre .0 in
-    let some = few-actions (d .within .sheet) _ (d .within .below) (d .tag) .0 in
-    (0, some, (c .first-action .ensures .0, least-begin 1000000000 _ _ (λ a. omega arith) some))
+    (0, c .before .before .before .pre .1 .0, (c .first-action .ensures .0, refl))
 
 next-action-requires : tie.Need-next-action-requires Inv-loop μ-loop
 next-action-requires c κs = turn-fits (turn-at c) (start-of c .pre .0 .within .sheet)

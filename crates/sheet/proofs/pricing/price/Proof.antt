@@ -2,15 +2,19 @@
 -- the dearest so far. A line of code put into the loop lengthens `loop-of` by a `.before`, one before the loop lengthens `start-of`, and
 -- one behind it the two answers at the end.
 use Prim.Native.Nat.{ℕ, _+_, _*_, _-_, _<_, _≤_}
-use mathlib.Core.Path.{_≡_, _∙_}
+use mathlib.Core.Path.{_≡_, refl, sym, ap, _∙_}
 use mathlib.Core.List.{List}
 use native.Mathlib.Omega.{arith}
 use borrow.Author.Needs.{needs}
+use lib.Dec.{ltb}
 use lib.ListN.{length, drop}
 use Rattle.model.specs.Problem.{valueOf}
 use Rattle.model.specs.Read.{problemOf, cellsOf, actionRead}
-use Rattle.model.specs.Limits.{maxSuccessors}
-use Rattle.sheet.proofs.Joining.{of-kind-fits, Sums, sums-none, sums-more, sums-all, sums-dearest}
+use Rattle.model.specs.Limits.{maxSuccessors, ceiling, noPlan}
+use Rattle.model.specs.Tests.{fork}
+use Rattle.model.specs.Cost.{cut}
+use Rattle.sheet.specs.Sheet.{ofKind}
+use Rattle.sheet.proofs.Joining.{of-kind-fits, Sums, sums-none, sums-more, sums-price, sums-dearest}
 use Rattle.sheet.proofs.Laws.{action-inside, some-successor, head-room}
 use Rattle.sheet.proofs.pricing.price.Statement.{statement}
 use Rattle.sheet.proofs.pricing.price.Tie as tie
@@ -116,22 +120,38 @@ of-kind-requires : tie.Need-of-kind-requires Inv-loop μ-loop
 of-kind-requires c κs =
     let turn = c .before .before .before in head-room (start-of (loop-of turn) .pre .sheet)
 
--- what is added to the cost: at most sixteen values
-sum-fits : (c : tie.After-of-kind Inv-loop μ-loop) → c .of-kind .result ≤ 4294967296 * 17
+-- what is added to the cost: at least the largest value, at most sixteen of them
+sum-fits : (c : tie.After-of-kind Inv-loop μ-loop) →
+    (c .before .before .before .before .larger .result ≤ c .of-kind .result) × (c .of-kind .result ≤ 4294967296 * 17)
 sum-fits c =
     let turn = c .before .before .before .before in
     let (more, sums) = loop-of turn .loop .inv in
     let st = start-of (loop-of turn) in
     let top = turned turn in
     let fit = of-kind-fits (problemOf (st .args .sheet .now) .kind) (turn .larger .result)
-    (loop-of turn .loop .total + turn .before .before .word-to-long .result) in
-    omega (arith, fit, c .of-kind .ensures, top .summed, top .largest, more, inside st)
+    (loop-of turn .loop .total + turn .before .before .word-to-long .result) (top .within) in
+    omega (arith, fit, c .of-kind .ensures, top .summed, more, inside st)
 
-add-cut-off : tie.Need-add-cut-off Inv-loop μ-loop
-add-cut-off c = omega (arith, sum-fits c, c .before .word-to-long2 .ensures .1)
+add-written : tie.Need-add-written Inv-loop μ-loop
+add-written c = omega (arith, sum-fits c, c .before .word-to-long2 .ensures .1)
 
-cut-off-requires : tie.Need-cut-off-requires Inv-loop μ-loop
-cut-off-requires c κs = search needs
+written-requires : tie.Need-written-requires Inv-loop μ-loop
+written-requires c κs = omega (arith, sum-fits c)
+
+-- the cost and what is added to it
+price-of : (c : tie.After-written Inv-loop μ-loop) →
+    let turn = c .before .before .before .before .before in
+    let a = start-of (loop-of turn) .args in
+    c .before .before .word-to-long2 .result + c .before .of-kind .result ≡
+    actionRead (drop (a .at) (a .sheet .now)) .cost +
+    ofKind (problemOf (a .sheet .now) .kind) (turn .larger .result) (loop-of turn .loop .total + turn .before .before .word-to-long .result)
+price-of c =
+    let cost = c .before .before .word-to-long2 .ensures .0 ∙ c .before .before .before .action-cost .ensures in
+    omega (arith, cost, c .before .of-kind .ensures)
+
+-- the amount that is written for a price of x, where the largest value is `most`
+abbrev written-amount : ℕ → ℕ → ℕ
+written-amount most x = fork (ltb ceiling most) (λ _. noPlan) (λ _. cut x)
 
 returns : tie.Need-returns Inv-loop μ-loop
 returns c =
@@ -140,8 +160,9 @@ returns c =
     let a = start-of at-loop .args in
     let last : at-loop .loop .j + 1 ≡ length (successorsAt (a .sheet .now) (a .at)) =
     omega (arith, at-loop .loop .inv .0, at-loop .before .before .next-action .ensures .0, c .before .before .before .before .if1 .taken) in
-    let all = sums-all (turned turn) (problemOf (a .sheet .now) .kind) last in
-    (cc, c .cut-off .ensures .1, sums-dearest (turned turn) last)
+    let sums = sums-price (turned turn) (problemOf (a .sheet .now) .kind) (actionRead (drop (a .at) (a .sheet .now))) refl last in
+    let paid = ap (λ (x : ℕ). written-amount (turn .larger .result) x) (price-of c) in
+    (c .written .ensures .0 ∙ (paid ∙ sym sums), c .written .ensures .1, sums-dearest (turned turn) last)
 
 pub price-spec : {M : Type 1} → statement M
 price-spec =
@@ -167,6 +188,6 @@ price-spec =
     action-cost-requires
     word-to-long-requires-2
     of-kind-requires
-    add-cut-off
-    cut-off-requires
+    add-written
+    written-requires
     returns)

@@ -1,22 +1,26 @@
 -- `visit`: a solved state, a terminal, a decision. A line of code put before the first test lengthens `start-of` by a `.before`, one
 -- between the two tests `solved-of`.
-use Prim.Native.Nat.{ℕ, _-_}
-use mathlib.Core.Path.{_≡_, _∙_, sym}
+use Prim.Native.Nat.{ℕ}
+use mathlib.Core.Path.{_≡_, _∙_, sym, ap}
 use mathlib.Core.Bool.{false}
+use mathlib.Core.Option.{some}
 use native.Mathlib.Omega.{arith}
 use borrow.Author.Needs.{needs}
 use borrow.Author.Tests.{eqb-true, eqb-false}
 use borrow.Fn.Kinds.{In}
-use Rattle.model.specs.Problem.{cellOf, solved}
-use Rattle.model.specs.Read.{cellsOf}
+use Rattle.model.specs.Problem.{nodeAt, cellOf, solved}
+use Rattle.model.specs.Read.{problemOf, cellsOf}
 use Rattle.sheet.specs.Sheet.{Terminal, Decision}
-use Rattle.sheet.proofs.Laws.{sheet-length, is-terminal, not-terminal}
-use Rattle.theory.proofs.Turns.{visit-solved, visit-terminal}
-use Rattle.search.proofs.Updates.{did, also-said}
+use Rattle.sheet.proofs.Laws.{sheet-length, not-terminal}
+use Rattle.theory.specs.Consistent.{endOf}
+use Rattle.theory.proofs.Turns.{visit-solved}
+use Rattle.search.proofs.Ends.{terminal-end, ends-said}
+use Rattle.search.proofs.Updates.{did}
 use Rattle.sheet.proofs.fields.is_terminal.Reads as is-terminal-reads
 use Rattle.sheet.proofs.fields.solved_at.Reads as solved-at-reads
+use Rattle.sheet.proofs.fields.terminal_cost.Reads as terminal-cost-reads
 use Rattle.search.proofs.visits.ended.Reads as ended-reads
-use Rattle.search.proofs.visits.visit_terminal.Reads as visit-terminal-reads
+use Rattle.search.proofs.visits.finish.Reads as finish-reads
 use Rattle.search.proofs.visits.visit_decision.Reads as visit-decision
 use Rattle.search.proofs.visits.visit.Reads as reads
 use Rattle.search.proofs.visits.visit.Kinds as kinds
@@ -35,8 +39,10 @@ module _ (t : ℕ) where
     ended-reads.Learnt,
     is-terminal-reads.Asked,
     is-terminal-reads.Learnt,
-    visit-terminal-reads.Asked,
-    visit-terminal-reads.Learnt,
+    terminal-cost-reads.Asked,
+    terminal-cost-reads.Learnt,
+    finish-reads.Asked,
+    finish-reads.Learnt,
     visit-decision-below t,
     visit-decision.Post,
   )
@@ -70,6 +76,10 @@ module _ (t : ℕ) where
     tag = eqb-true _ _ (sym (c .before .is-terminal .ensures) ∙ c .if2 .taken);
   }
 
+  cost-ends : (c : lts.After-terminal-cost calls given reads.Post) → let a = call-of (c .before .before .before) .args in
+      endOf (nodeAt (problemOf (a .sheet .now)) (a .state)) ≡ some (c .terminal-cost .result)
+  cost-ends c = terminal-end _ (terminal-at (c .before .before) .tag) ∙ ap some (sym (c .terminal-cost .ensures))
+
   decision-at : (c : lts.Else2 calls given reads.Post) →
       let x = call-of (c .before) .args in Decision (x .sheet .now) (x .table .now) (x .state)
   decision-at c = record {
@@ -96,36 +106,41 @@ module _ (t : ℕ) where
   is-terminal-requires : lts.Need-is-terminal-requires calls given reads.Post
   is-terminal-requires c κs = search needs
 
-  visit-terminal-requires : lts.Need-visit-terminal-requires calls given reads.Post
-  visit-terminal-requires c κs = terminal-at (c .before)
+  terminal-cost-requires : lts.Need-terminal-cost-requires calls given reads.Post
+  terminal-cost-requires c κs = terminal-at (c .before)
+
+  finish-requires : lts.Need-finish-requires calls given reads.Post
+  finish-requires c κs =
+      let cost = c .before in
+      let st = call-of (cost .before .before .before) in
+      (st .pre .1 .0, st .pre .1 .1 .0 .consistent .sound (st .args .state) .endless _ (cost-ends cost))
 
   same-length-2 : lts.Need-same-length-2 calls given reads.Post
   same-length-2 c =
-      let v = c .before .before in
-      let y = v .before .before in
-      sheet-length (call-of (y .before) .pre .1 .0 .sheet) (v .visit-terminal .ensures .sheet)
+      let f = c .before .before in
+      let tested = f .before .before .before .before .before in
+      sheet-length (call-of tested .pre .1 .0 .sheet) (f .finish .ensures .sheet)
 
   returns-2 : lts.Need-returns-2 calls given reads.Post
   returns-2 c =
-      let v = c .before .before in
-      let y = v .before .before in
-      let pre = call-of (y .before) .pre .1 in
-      let node = is-terminal _ (terminal-at y .tag) in
-      also-said (v .visit-terminal .ensures)
-      (sym (visit-terminal _ _ (pre .1 .0 .formed) _ _ (pre .0 .below) _ (unsolved-at (y .before)) node))
+      let f = c .before .before in
+      let cost = f .before .before in
+      let tested = cost .before .before .before in
+      let pre = call-of tested .pre .1 in
+      ends-said _ _ _ _ _ (pre .1 .0 .formed) (pre .0 .below) (unsolved-at tested) (cost-ends cost) (f .finish .ensures)
 
   visit-decision-requires : lts.Need-visit-decision-requires calls given reads.Post
   visit-decision-requires c κs =
-      let y = c .before in
-      let st = call-of (y .before) in
+      let tested = c .before .before in
+      let st = call-of tested in
       let pre = st .pre .1 in
-      (omega (arith, st .pre .0), (decision-at y, (unsolved-at (y .before), (pre .1 .0, pre .1 .1))))
+      (omega (arith, st .pre .0), (decision-at (c .before), (unsolved-at tested, (pre .1 .0, pre .1 .1))))
 
   same-length-3 : lts.Need-same-length-3 calls given reads.Post
   same-length-3 c =
       let v = c .before .before in
-      let y = v .before .before in
-      sheet-length (call-of (y .before) .pre .1 .0 .sheet) (v .visit-decision .ensures .sheet)
+      let tested = v .before .before .before in
+      sheet-length (call-of tested .pre .1 .0 .sheet) (v .visit-decision .ensures .sheet)
 
   returns-3 : lts.Need-returns-3 calls given reads.Post
   returns-3 c = c .before .before .visit-decision .ensures
@@ -141,7 +156,8 @@ module _ (t : ℕ) where
       same-length
       returns
       is-terminal-requires
-      visit-terminal-requires
+      terminal-cost-requires
+      finish-requires
       same-length-2
       returns-2
       visit-decision-requires

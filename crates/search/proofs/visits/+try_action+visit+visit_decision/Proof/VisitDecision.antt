@@ -9,6 +9,7 @@ use borrow.Fn.Kinds.{In}
 use lib.Dec.{eqb}
 use lib.ListN.{length, getD}
 use Rattle.model.specs.Format.{actionTag}
+use Rattle.model.specs.Limits.{ceiling}
 use Rattle.model.specs.Read.{problemOf, cellsOf}
 use Rattle.sheet.specs.Sheet.{Sheet}
 use Rattle.sheet.proofs.Laws.{problem-is, sheet-length, actionsAt}
@@ -16,7 +17,7 @@ use Rattle.search.specs.declared.visits.OpenDecision.{OpenDecision}
 use Rattle.search.proofs.Actions.{Turn, turn-fits, turn-priced, turn-few}
 use Rattle.search.proofs.Trying.{back}
 use Rattle.search.proofs.Deciding.{Opened, Acting, begins, still-opens, still-workable, stands, all-kept, fails, fair, succeeds}
-use Rattle.search.proofs.Deciding.{halts, abandons, skips}
+use Rattle.search.proofs.Deciding.{halts, abandons, skips, some-there, barren-given, finishes}
 use Rattle.sheet.proofs.fields.action_here.Reads as action-here-reads
 use Rattle.sheet.proofs.fields.first_action.Reads as first-action-reads
 use Rattle.sheet.proofs.fields.next_action.Reads as next-action-reads
@@ -28,6 +29,7 @@ use Rattle.search.proofs.kept.none_kept.Reads as none-kept-reads
 use Rattle.search.proofs.kept.skipped.Reads as skipped-reads
 use Rattle.search.proofs.visits.ended.Reads as ended-reads
 use Rattle.search.proofs.visits.fail.Reads as fail-reads
+use Rattle.search.proofs.visits.finish.Reads as finish-reads
 use Rattle.search.proofs.visits.try_action.Reads as try-action
 use Rattle.search.proofs.visits.visit_decision.Reads as reads
 use Rattle.search.proofs.visits.visit_decision.Kinds as kinds
@@ -70,6 +72,8 @@ module _ (t : ℕ) where
     ended-reads.Learnt,
     abandoned-reads.Asked,
     abandoned-reads.Learnt,
+    finish-reads.Asked,
+    finish-reads.Learnt,
     fail-reads.Asked,
     fail-reads.Learnt,
   )
@@ -204,14 +208,14 @@ module _ (t : ℕ) where
   next-action-requires : lts.Need-next-action-requires calls given reads.Post Inv-loop μ-loop
   next-action-requires c κs = turn-fits (turn-at (c .before)) (loop-at (c .before) .loop .inv .sheet)
 
-  add-i : lts.Need-add-i calls given reads.Post Inv-loop μ-loop
-  add-i c = omega (arith, turn-few (turn-at (c .before .before)) (loop-at (c .before .before) .loop .inv .sheet))
-
   price-requires : lts.Need-price-requires calls given reads.Post Inv-loop μ-loop
   price-requires c κs = turn-priced (turn-at (c .before .before .before)) (loop-at (c .before .before .before) .loop .inv .sheet)
 
   skipped-requires : lts.Need-skipped-requires calls given reads.Post Inv-loop μ-loop
   skipped-requires c κs = search needs
+
+  add-i : lts.Need-add-i calls given reads.Post Inv-loop μ-loop
+  add-i c = let here = here-of (c .before .before .before) in omega (arith, turn-few (turn-at here) (loop-at here .loop .inv .sheet))
 
   loop-less : lts.Need-loop-less calls given reads.Post Inv-loop μ-loop
   loop-less c = omega (arith, turn-at (here-of (c .before .before .before)) .exists)
@@ -233,7 +237,7 @@ module _ (t : ℕ) where
       let m = l .loop .inv in
       let cheap = fair w m (turn-at here) (x .price .ensures .0) (c .before .if2 .left) in (
         rw (problem-is (m .sheet)) (omega (arith, start-of l .pre .0)),
-        (still-opens w m, (still-workable w m, (m .leads .ready .within, cheap))),
+        (still-opens w m (omega (arith, turn-at here .exists)), (still-workable w m, (m .leads .ready .within, cheap))),
       )
 
   enum-told : lts.Need-enum-told calls given reads.Post Inv-loop μ-loop
@@ -262,6 +266,12 @@ module _ (t : ℕ) where
 
   abandoned-requires : lts.Need-abandoned-requires calls given reads.Post Inv-loop μ-loop
   abandoned-requires c κs = search needs
+
+  add-i-2 : lts.Need-add-i-2 calls given reads.Post Inv-loop μ-loop
+  add-i-2 c =
+      let told = c .before .before .before in
+      let here = here-of (price-of (try-of (told .before .before))) in
+      omega (arith, turn-few (turn-at here) (loop-at here .loop .inv .sheet))
 
   loop-less-2 : lts.Need-loop-less-2 calls given reads.Post Inv-loop μ-loop
   loop-less-2 c =
@@ -295,25 +305,49 @@ module _ (t : ℕ) where
       halts (opened-of l) (l .loop .inv) (turn-at (here-of x)) (x .price .ensures .0) (v .before .before .if2 .left)
       (v .try-action .ensures) (told .enum-told3 .given .1) (c .ended2 .ensures)
 
-  fail-requires : lts.Need-fail-requires calls given reads.Post Inv-loop μ-loop
-  fail-requires c κs =
-      let l = loop-past (c .before) in
-      let w = opened-of l in
-      let m = l .loop .inv in
-      (still-opens w m, (still-workable w m, all-kept w m (none-at (c .before))))
+  finish-requires : lts.Need-finish-requires calls given reads.Post Inv-loop μ-loop
+  finish-requires c κs =
+      let past = c .before .before in
+      let l = loop-past past in
+      barren-given (opened-of l) (l .loop .inv) (none-at past) (c .before .if3 .taken)
 
   same-length-3 : lts.Need-same-length-3 calls given reads.Post Inv-loop μ-loop
   same-length-3 c =
       let f = c .before .before in
-      let l = loop-past (f .before .before) in
-      sheet-length (opened-of l .sheet) (back (l .loop .inv .sheet) (f .fail .ensures .sheet))
+      let l = loop-past (f .before .before .before) in
+      sheet-length (opened-of l .sheet) (back (l .loop .inv .sheet) (f .finish .ensures .sheet))
 
   returns-3 : lts.Need-returns-3 calls given reads.Post Inv-loop μ-loop
+  unfolding ceiling
   returns-3 c =
       let f = c .before .before in
-      let past = f .before .before in
+      let none = f .before .before in
+      let past = none .before in
       let l = loop-past past in
-      fails (opened-of l) (l .loop .inv) (none-at past) (f .fail .ensures)
+      finishes (opened-of l) (l .loop .inv) (none-at past) (none .if3 .taken) (f .finish .ensures)
+
+  fail-requires : lts.Need-fail-requires calls given reads.Post Inv-loop μ-loop
+  fail-requires c κs =
+      let past = c .before .before in
+      let l = loop-past past in
+      let w = opened-of l in
+      let m = l .loop .inv in
+      let has = some-there w m (none-at past) (omega (arith, c .before .if3 .left)) in
+      (still-opens w m has, (still-workable w m, all-kept w m (none-at past)))
+
+  same-length-4 : lts.Need-same-length-4 calls given reads.Post Inv-loop μ-loop
+  same-length-4 c =
+      let f = c .before .before in
+      let l = loop-past (f .before .before .before) in
+      sheet-length (opened-of l .sheet) (back (l .loop .inv .sheet) (f .fail .ensures .sheet))
+
+  returns-4 : lts.Need-returns-4 calls given reads.Post Inv-loop μ-loop
+  returns-4 c =
+      let f = c .before .before in
+      let some = f .before .before in
+      let past = some .before in
+      let l = loop-past past in
+      fails (opened-of l) (l .loop .inv) (none-at past) (omega (arith, some .if3 .left)) (f .fail .ensures)
 
   pub proved : {M : Type 1} → lts.Closed calls given reads.Post M
   proved =
@@ -330,9 +364,9 @@ module _ (t : ℕ) where
       loop-holds
       action-here-requires
       next-action-requires
-      add-i
       price-requires
       skipped-requires
+      add-i
       loop-less
       loop-again
       try-action-requires
@@ -343,12 +377,16 @@ module _ (t : ℕ) where
       enum-told-2
       price-requires-2
       abandoned-requires
+      add-i-2
       loop-less-2
       loop-again-2
       enum-told-3
       ended-requires-2
       same-length-2
       returns-2
-      fail-requires
+      finish-requires
       same-length-3
       returns-3
+      fail-requires
+      same-length-4
+      returns-4

@@ -1,0 +1,146 @@
+//! Damage of sheets that have a junction without checks: each question on both sides of none (S2.11).
+
+use crate::cells;
+use crate::draft::{Draft, Node, CEILING, NONE};
+use crate::rng::Rng;
+
+/// Says whether it found a stage to damage.
+type InDraft = fn(&mut Draft, &mut Rng) -> bool;
+
+const CEILING_32: u32 = CEILING as u32;
+
+/// Those that need certain checks stand there more than once: they miss often.
+const OF_NONE: [InDraft; 23] = [
+    settled_elsewhere,
+    settled_elsewhere,
+    settled_elsewhere,
+    nothing_to_choose,
+    nothing_to_choose,
+    beyond_none,
+    beyond_none,
+    ending_at_none,
+    raised_too_far,
+    raised_too_far,
+    raised_too_far,
+    raised_too_far,
+    finding_opened,
+    finding_opened,
+    finding_opened,
+    ceiling_for_none,
+    ceiling_for_none,
+    ceiling_for_none,
+    none_for_ceiling,
+    none_for_ceiling,
+    none_for_ceiling,
+    none_for_ceiling,
+    none_for_ceiling,
+];
+
+/// One of them, the first that finds its stage.
+pub fn draft(draft: &mut Draft, rng: &mut Rng) {
+    for _ in 0..OF_NONE.len() {
+        if rng.pick(&OF_NONE)(draft, rng) {
+            return;
+        }
+    }
+}
+
+/// Question 8: a settled junction without checks is at none.
+fn settled_elsewhere(draft: &mut Draft, rng: &mut Rng) -> bool {
+    let Some(number) = any(draft, rng, |draft, s| draft.emptied(s)) else { return false };
+    let value = rng.pick(&[0, 0, CEILING_32, CEILING_32, CEILING_32 - 1, CEILING_32 - 1, NONE, 7]);
+    let state = &mut draft.states[number];
+    (state.value, state.mark, state.chosen) = (value, 1, 0);
+    unwork(draft, number);
+    true
+}
+
+/// Question 5: where there are no checks, 0 is chosen.
+fn nothing_to_choose(draft: &mut Draft, rng: &mut Rng) -> bool {
+    let Some(number) = any(draft, rng, |draft, s| draft.emptied(s)) else { return false };
+    let state = &mut draft.states[number];
+    (state.value, state.mark) = rng.pick(&[(0, 0), (NONE, 0), (NONE, 1), (NONE, 1)]);
+    state.chosen = rng.pick(&[1, 1, 15, 16, 255]);
+    true
+}
+
+/// Question 5: no value is above none, wherever.
+fn beyond_none(draft: &mut Draft, rng: &mut Rng) -> bool {
+    let kinds: [Wanted; 3] = [is_ending, |draft, s| draft.emptied(s), |draft, s| !draft.actions(s).is_empty()];
+    let kind = rng.pick(&kinds);
+    let Some(number) = any(draft, rng, kind) else { return false };
+    draft.states[number].value = NONE + 1;
+    true
+}
+
+/// Question 7: an ending is never at none.
+fn ending_at_none(draft: &mut Draft, rng: &mut Rng) -> bool {
+    let Some(number) = any(draft, rng, is_ending) else { return false };
+    draft.states[number].value = NONE;
+    true
+}
+
+/// Question 7: an open junction at none or at the ceiling, although one of its checks is below; where one is none already, if there is any.
+fn raised_too_far(draft: &mut Draft, rng: &mut Rng) -> bool {
+    let below: Wanted = |draft, s| !draft.actions(s).is_empty() && draft.top(s) < CEILING_32;
+    let beside: Wanted = |draft, s| draft.actions(s).iter().any(|action| draft.price(action) == u64::from(NONE));
+    let both: Wanted = if (0..draft.states.len()).any(|s| below(draft, s) && beside(draft, s)) { beside } else { below };
+    let Some(number) = any(draft, rng, |draft, s| below(draft, s) && both(draft, s)) else { return false };
+    let state = &mut draft.states[number];
+    (state.value, state.mark, state.chosen) = (rng.pick(&[NONE, CEILING_32]), 0, 0);
+    true
+}
+
+/// Question 8: the chosen check of a junction that is settled at none has an open finding.
+fn finding_opened(draft: &mut Draft, rng: &mut Rng) -> bool {
+    let Some(number) = settled_at(draft, rng, NONE) else { return false };
+    let chosen = &draft.actions(number)[usize::from(draft.states[number].chosen)];
+    let finding = usize::from(rng.pick(&chosen.successors));
+    let state = &mut draft.states[finding];
+    (state.mark, state.chosen) = (0, 0);
+    true
+}
+
+/// Question 8: a junction is settled at the ceiling, and the price of its chosen check is none.
+fn ceiling_for_none(draft: &mut Draft, rng: &mut Rng) -> bool {
+    let Some(number) = settled_at(draft, rng, NONE) else { return false };
+    draft.states[number].value = CEILING_32;
+    unwork(draft, number);
+    true
+}
+
+/// Question 7: a junction is settled at none, and the price of its chosen check is the ceiling.
+fn none_for_ceiling(draft: &mut Draft, rng: &mut Rng) -> bool {
+    let Some(number) = settled_at(draft, rng, CEILING_32) else { return false };
+    draft.states[number].value = NONE;
+    true
+}
+
+type Wanted = fn(&Draft, usize) -> bool;
+
+fn is_ending(draft: &Draft, state: usize) -> bool {
+    matches!(draft.states[state].node, Node::Terminal(_))
+}
+
+/// A junction with checks that is settled at a value; where there is none, the work is finished first.
+fn settled_at(draft: &mut Draft, rng: &mut Rng, value: u32) -> Option<usize> {
+    let wanted =
+        |draft: &Draft, s: usize| !draft.actions(s).is_empty() && draft.states[s].mark == 1 && draft.states[s].value == value;
+    if !(0..draft.states.len()).any(|state| wanted(draft, state)) {
+        cells::finish(draft, rng);
+    }
+    any(draft, rng, wanted)
+}
+
+/// A stage that is wanted, at random.
+fn any(draft: &Draft, rng: &mut Rng, wanted: impl Fn(&Draft, usize) -> bool) -> Option<usize> {
+    let drawn: Vec<usize> = (0..draft.states.len()).filter(|&state| wanted(draft, state)).collect();
+    (!drawn.is_empty()).then(|| rng.pick(&drawn))
+}
+
+/// Stages before this one become unworked: they may lead to it, and would be wrong too.
+fn unwork(draft: &mut Draft, number: usize) {
+    for state in &mut draft.states[..number] {
+        (state.value, state.mark, state.chosen) = (0, 0, 0);
+    }
+}
