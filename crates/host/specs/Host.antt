@@ -31,8 +31,7 @@ resultBytes = 24
 abbrev pub room : List ℕ → Bool
 room r = leb resultBytes (length r)
 
--- the number returned: a refusal's own, 1 too where the result is too short, or 100 settled, 101 over, 102 stopped,
--- 103 none
+-- the number returned: a refusal's own, 1 too where the result is too short, or 100 settled, 101 over, 102 stopped, 103 none
 unfoldable pub hostNumber : List ℕ → List ℕ → ℕ → List ℕ → ℕ
 hostNumber s t budget r = fork (room r) (λ _. number (answerTo s (entries t) budget .outcome)) (λ _. 1)
 

@@ -1,6 +1,7 @@
 //! Junctions that have no check left (S1.2): worked by hand, for the sheets F to I of S11 and a few more.
 
-use crate::{call, listing, CEILING, NONE};
+use crate::by_hand::{answer, with};
+use crate::{listing, CEILING, NONE};
 
 const LARGEST: u64 = u64::MAX;
 
@@ -46,23 +47,6 @@ fn at(sheet: &[u8], values: &[(usize, u64)]) -> Vec<u8> {
         bytes[place..place + 4].copy_from_slice(&(value as u32).to_be_bytes());
     }
     bytes
-}
-
-/// The sheet with these bytes at these places.
-fn with(sheet: &[u8], changes: &[(usize, u8)]) -> Vec<u8> {
-    let mut bytes = sheet.to_vec();
-    for &(place, byte) in changes {
-        bytes[place] = byte;
-    }
-    bytes
-}
-
-/// One call: the number, price, passes and raises.
-fn answer(sheet: &mut [u8], budget: u64) -> (u32, [u64; 3]) {
-    let mut result = [0; 24];
-    let number = call(sheet, &mut [0; 16_384], budget, &mut result);
-    let read = |at: usize| u64::from_le_bytes(result[at..at + 8].try_into().expect("eight bytes"));
-    (number, [0, 8, 16].map(read))
 }
 
 #[test]

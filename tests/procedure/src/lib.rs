@@ -3,6 +3,8 @@
 //! It reads a sheet into lists, works on those and stores them back. It shares no code with the program `sweep`.
 
 #[cfg(test)]
+mod by_hand;
+#[cfg(test)]
 mod emptied;
 mod host;
 mod ldfs;

@@ -1,6 +1,7 @@
 //! Findings listed several times (S2.10): worked by hand, for the sheets D and E of S11 and a few more.
 
-use crate::{call, listing};
+use crate::by_hand::{answer, with};
+use crate::listing;
 
 /// Junction 0 with one check (100, findings 1 and 1); ending 1 costs 30.
 const SHEET_D: [u8; 40] = [
@@ -32,23 +33,6 @@ fn with_findings(sheet: &[u8], findings: &[u8]) -> Vec<u8> {
     bytes.extend(findings.iter().flat_map(|&finding| [0, finding]));
     bytes.extend(&sheet[end..]);
     bytes
-}
-
-/// The sheet with these bytes at these places.
-fn with(sheet: &[u8], changes: &[(usize, u8)]) -> Vec<u8> {
-    let mut bytes = sheet.to_vec();
-    for &(place, byte) in changes {
-        bytes[place] = byte;
-    }
-    bytes
-}
-
-/// One call: the number, price, passes and raises.
-fn answer(sheet: &mut [u8], budget: u64) -> (u32, [u64; 3]) {
-    let mut result = [0; 24];
-    let number = call(sheet, &mut [0; 16_384], budget, &mut result);
-    let read = |at: usize| u64::from_le_bytes(result[at..at + 8].try_into().expect("eight bytes"));
-    (number, [0, 8, 16].map(read))
 }
 
 #[test]
