@@ -14,8 +14,8 @@ use Rattle.model.specs.Questions.{refusal}
 use Rattle.model.specs.Policy.{Closed, written as writtenPlan}
 use Rattle.model.specs.Report.{number, largest, onRefusal, answerTo, bytesAfter, indexTable, tableAfter, tableUnder}
 use Rattle.sheet.proofs.Laws.{own, indexed}
-use Rattle.theory.proofs.Accepted.{asked-problem, asked-cells}
-use Rattle.theory.proofs.Sheets.{Stands, accepted-stands, stands-problem, stands-cells, unrefused}
+use Rattle.theory.proofs.Accepted.{asked-problem}
+use Rattle.theory.proofs.Sheets.{Stands, accepted-stands, stands-problem, unrefused}
 use Rattle.theory.proofs.Called.{answer-refused, Called, call-does}
 use Rattle.theory.proofs.Demands.{demand2}
 use Rattle.ldfs.specs.Made.{Solved}
@@ -34,7 +34,6 @@ module _ (s t : List ℕ) (budget : ℕ) (bytes : Bytes s) where
   unrefused-worked e complete = record {
     sheet = own (indexed _ (h .is) (h .asked .shaped) filled);
     formed = rw (stands-problem _ _ _ h) (asked-problem _ _ (h .asked));
-    consistent = rw (stands-problem _ _ _ h, stands-cells _ _ _ h) (asked-cells _ _ (h .asked));
     complete = rw (stands-problem _ _ _ h) complete;
   }
     where

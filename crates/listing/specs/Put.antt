@@ -9,7 +9,7 @@ use Rattle.model.specs.Read.{problemOf, cellsOf}
 use Rattle.model.specs.Policy.{Closed, written}
 use Rattle.layout.specs.Placed.{placed}
 use Rattle.sheet.specs.Sheet.{Sheet}
-use Rattle.theory.specs.Consistent.{WellFormed, Consistent}
+use Rattle.theory.specs.Consistent.{WellFormed}
 
 -- a text was written into a buffer at a place, and the rest of the buffer kept
 pub record Wrote (before after : List ℕ) (at next : ℕ) (text : List ℕ) : Type 0 where
@@ -17,12 +17,11 @@ pub record Wrote (before after : List ℕ) (at next : ℕ) (text : List ℕ) : T
   pub bytes : after ≡ placed at text before
   pub behind : next ≡ at + length text
 
--- what listing a sheet supposes: it is in place, its problem well formed and its cells consistent, as work leaves them, and the start's
--- plan is complete, as it is when settled
+-- what listing a sheet supposes: it is in place and its problem well formed, as work leaves them, and the start's plan is complete, as it
+-- is when settled
 pub record Listable (s t : List ℕ) : Type 0 where
   pub sheet : Sheet s t (problemOf s) (cellsOf s)
   pub formed : WellFormed (problemOf s)
-  pub consistent : Consistent (problemOf s) (cellsOf s)
   pub complete : Closed (problemOf s) (written (cellsOf s)) (problemOf s .start)
 
 -- where stage i is a junction, its chosen check is one of its checks

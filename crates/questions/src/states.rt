@@ -67,7 +67,7 @@ fn count_in_range(sheet: &[u8], table: &[u32], state: usize) -> usize
     n
 }
 
-// Question 5 of one state. At a decision no action chosen, 0, is in range wherever it stands; another only where it is solved.
+// Question 5 of one state. At a decision the chosen action 0 is always in range; another where it is solved and has that action.
 fn in_range(sheet: &[u8], table: &[u32], state: usize) -> bool
     requires { ⌜ Within (now sheet) (now table) state ⌝ }
     ensures { λ r. ⌜ r ≡ rangesAt (nodeAt (problemOf (now (sheet .entry))) state) (cellOf (cellsOf (now (sheet .entry))) state) ⌝ }

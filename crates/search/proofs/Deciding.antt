@@ -13,7 +13,7 @@ use Rattle.model.specs.Format.{decisionTag, actionTag, tagOf, valueOffset, acti
 use Rattle.model.specs.Read.{problemOf, cellsOf, actionRead}
 use Rattle.model.specs.Limits.{noPlan}
 use Rattle.model.specs.QValue.{q, least}
-use Rattle.model.specs.Ldfs.{Search, Visit, success, failure, valueAt, solvedAt, priceAt, marked, update}
+use Rattle.model.specs.Ldfs.{Search, Visit, failure, valueAt, solvedAt, priceAt, update, finish}
 use Rattle.sheet.specs.Sheet.{Sheet, Within}
 use Rattle.sheet.proofs.Laws.{problem-is, within, is-decision, actionsAt, action-stands, action-ends}
 use Rattle.theory.specs.Consistent.{endOf, WellFormed}
@@ -132,7 +132,7 @@ module _ {t : List ℕ} {p : Problem} {budget : ℕ} {d : OpenDecision} {s₀ : 
         barren-given = (within (m .sheet) i (w .below), m .leads .ready .consistent .sound i .endless noPlan ends)
 
         pub finishes : {s′ : List ℕ} {v : Visited} →
-            Did t (problemOf s) s′ v (update budget i noPlan (λ w′. success (marked i 0 w′)) (reached s r)) →
+            Did t (problemOf s) s′ v (finish budget i noPlan (reached s r)) →
             Did t p s′ v (visiting p budget i (reached s₀ r₀))
         finishes g =
             let (same-bytes, same-raises) = m .first z in

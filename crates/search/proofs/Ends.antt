@@ -9,7 +9,7 @@ use lib.ListN.{length}
 use Rattle.model.specs.Problem.{Node, terminal, decision, Problem, Cell, states, nodeAt, cellOf, solved}
 use Rattle.model.specs.Format.{terminalTag, decisionTag, tagOf, actionsOf}
 use Rattle.model.specs.Limits.{noPlan}
-use Rattle.model.specs.Ldfs.{success, marked, update}
+use Rattle.model.specs.Ldfs.{finish}
 use Rattle.sheet.specs.Sheet.{terminalCost}
 use Rattle.theory.specs.Consistent.{endOf, WellFormed}
 use Rattle.theory.proofs.Turns.{visit-end}
@@ -28,10 +28,10 @@ barren-end (terminal cost) e none = absurd (omega arith)
 barren-end (decision []) e none = refl
 barren-end (decision (a ∷ more)) e none = absurd (omega arith)
 
--- such a state, open, whose value became x and which was marked, has been visited
+-- such a state, open, that was finished at x has been visited
 pub ends-said : {s t : List ℕ} {p : Problem} (cells : List Cell) (budget i r x : ℕ) {v : Visited} → WellFormed p → i < states p →
     solved (cellOf cells i) ≡ false → endOf (nodeAt p i) ≡ some x →
-    Did t p s v (update budget i x (λ w. success (marked i 0 w)) (search cells r)) →
+    Did t p s v (finish budget i x (search cells r)) →
     Did t p s v (visiting p budget i (search cells r))
 ends-said {p = p} cells budget i r x wf below open-state ends did-it =
     also-said did-it (sym (visit-end p budget wf i (search cells r) below x open-state ends))

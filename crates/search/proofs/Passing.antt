@@ -6,8 +6,7 @@ use native.Mathlib.Omega.{arith}
 use native.Mathlib.Numerals.{add-one}
 use Rattle.model.specs.Problem.{Problem, states}
 use Rattle.model.specs.Read.{cellsOf}
-use Rattle.model.specs.Ldfs.{work}
-use Rattle.model.specs.Ldfs.{workBy}
+use Rattle.model.specs.Ldfs.{workBy, work}
 use Rattle.sheet.specs.Sheet.{Sheet}
 use Rattle.theory.specs.Consistent.{WellFormed, Consistent}
 use Rattle.theory.proofs.LimitLaws.{values-few}

@@ -12,7 +12,7 @@ use lib.Seq.{getD-set-same}
 use Rattle.model.specs.Problem.{Problem, Cell, cell, states, nodeAt, cellOf, setValue, setSolved}
 use Rattle.model.specs.Format.{put32, decisionTag, tagOf, valueOffset}
 use Rattle.model.specs.Read.{problemOf, cellsOf}
-use Rattle.model.specs.Ldfs.{Search, Visit, success, failure, halt, valueAt, marked, update}
+use Rattle.model.specs.Ldfs.{Search, Visit, success, failure, halt, valueAt, marked, update, finish}
 use Rattle.sheet.specs.Sheet.{Sheet}
 use Rattle.sheet.proofs.Laws.{cells-are, named, has-cell, chosen-room, with-value, with-end-solved, with-decision-solved}
 use Rattle.theory.proofs.Basics.{lt-or-le}
@@ -105,11 +105,12 @@ changed s {s′ = s′} i x budget r d e = go (lt-or-le (valueAt before i) x) (l
 module _ {s t : List ℕ} {p : Problem} {i at value : ℕ} (g : ValueAt s t p i at value) (none : cellOf (cellsOf s) i .chosen ≡ 0)
     (x budget r : ℕ) {s′ : List ℕ} {u : Updated} (d : Stored t p s′ u (updated s i x budget r)) where
   abbrev finished : Visit
-  finished = updated s i x budget r (λ w. success (marked i 0 w))
+  finished = finish budget i x (search (cellsOf s) r)
 
   pub settles : u .done ≡ true → {s″ : List ℕ} → s″ ≡ set s′ (at + 4) 1 → {v : Visited} →
       (v .way ≡ Success) × (v .raises ≡ u .raises) →
       Did t p s″ v finished
+  unfolding finish
   settles e last says =
       let raised = cell x (cellOf (cellsOf s) i .mark) (cellOf (cellsOf s) i .chosen) in
       let same = getD-set-same (cellsOf s) i raised (cell 0 0 0) (has-cell (g .sheet) i (g .below)) in
@@ -118,6 +119,7 @@ module _ {s t : List ℕ} {p : Problem} {i at value : ℕ} (g : ValueAt s t p i 
       did (rw (last, g .place) solved) (went-on d (λ w. success (marked i 0 w)) e) says
 
   pub no-room : u .done ≡ false → {v : Visited} → (v .way ≡ Halt) × (v .raises ≡ u .raises) → Did t p s′ v finished
+  unfolding finish
   no-room e says = did (d .sheet) (stopped d (λ w. success (marked i 0 w)) e) says
 
 -- a decision whose value becomes the least price

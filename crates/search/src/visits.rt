@@ -9,7 +9,7 @@ ghost use Rattle.model.specs.Problem.{Problem, nodeAt, cellOf, valueOf, solved}
 ghost use Rattle.model.specs.Format.{actionsOf};
 ghost use Rattle.model.specs.Read.{problemOf, cellsOf};
 ghost use Rattle.model.specs.QValue.{q, least};
-ghost use Rattle.model.specs.Ldfs.{success, failure, marked, update as updated};
+ghost use Rattle.model.specs.Ldfs.{failure, update as updated, finish as finished};
 ghost use Rattle.sheet.specs.Sheet.{Within, Decision};
 ghost use Rattle.search.specs.Did.{search, visiting, trying, Stored, Did, Workable};
 ghost use Rattle.search.specs.Keeps.{Keeps};
@@ -108,7 +108,7 @@ fn finish(
     requires { ⌜ Within (now sheet) (now table) state ⌝ }
     requires { ⌜ cellOf (cellsOf (now sheet)) state .chosen ≡ 0 ⌝ }
     ensures { λ r. ⌜ Did (now (table .entry)) (problemOf (now (sheet .entry))) (now (sheet .exit)) r
-        (updated budget state x (λ w. success (marked state 0 w)) (search (cellsOf (now (sheet .entry))) raises)) ⌝ }
+        (finished budget state x (search (cellsOf (now (sheet .entry))) raises)) ⌝ }
 {
     let at = value_place(sheet, table, state);
     let value = value_at(sheet, table, state);

@@ -17,7 +17,7 @@ use Rattle.model.specs.Cost.{cut}
 use Rattle.model.specs.QValue.{join, q, dearerOf, dearestFrom, dearest, leastFrom}
 use Rattle.model.specs.Earlier.{joinedValues}
 use Rattle.layout.proofs.Prices.{price-none, price-number}
-use Rattle.sheet.specs.Sheet.{ofKind}
+use Rattle.sheet.specs.Sheet.{ofKind, writtenPrice}
 
 join-assoc : (k : Kind) (a b c : ℕ) → join k a (join k b c) ≡ join k (join k a b) c
 unfolding join
@@ -172,7 +172,7 @@ module _ {v : ℕ → ℕ} {ts : List ℕ} where
 
     -- the price of an action with these successors, once all have been gone through
     pub sums-price : (k : Kind) (a : Action) → a .successors ≡ ts → j ≡ length ts →
-        q k v a ≡ fork (ltb ceiling most) (λ _. noPlan) (λ _. cut (a .cost + ofKind k most total))
+        q k v a ≡ writtenPrice most (a .cost + ofKind k most total)
     sums-price k a is e = go (ltb ceiling most) refl
       where
         top : joinedValues worst v (a .successors) ≡ most

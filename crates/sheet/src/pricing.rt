@@ -1,16 +1,12 @@
 // The price of an action (S2.8) and its dearest successor (S2.9), for both kinds. Sums are kept in 64 bits before they are cut.
 ghost use mathlib.Core.Path.{_≡_};
 ghost use Prim.Native.Nat.{_+_, _<_, _≤_, max};
-ghost use lib.Dec.{ltb};
 ghost use lib.ListN.{length, drop};
 ghost use Rattle.model.specs.Problem.{valueOf};
 ghost use Rattle.model.specs.Format.{kindIn};
 ghost use Rattle.model.specs.Read.{problemOf, cellsOf, actionRead};
-ghost use Rattle.model.specs.Cost.{cut};
-ghost use Rattle.model.specs.Tests.{fork};
-ghost use Rattle.model.specs.Limits.{ceiling, noPlan};
 ghost use Rattle.model.specs.QValue.{q, dearerOf, dearest};
-ghost use Rattle.sheet.specs.Sheet.{Priced, ofKind};
+ghost use Rattle.sheet.specs.Sheet.{Priced, ofKind, writtenPrice};
 use super::convert::word_to_long;
 use super::fields::action_cost;
 use super::fields::next_action;
@@ -57,7 +53,7 @@ fn of_kind(sheet: &[u8], most: u64, total: u64) -> u64
 // price that reaches the ceiling can be none, so most prices take one comparison.
 fn written(most: u64, x: u64) -> u32
     requires { ⌜ most ≤ x ⌝ }
-    ensures { λ r. ⌜ (r ≡ fork (ltb ceiling most) (λ _. noPlan) (λ _. cut x)) × (r ≤ 1000000001) ⌝ }
+    ensures { λ r. ⌜ (r ≡ writtenPrice most x) × (r ≤ 1000000001) ⌝ }
 {
     if x < LONG_CEILING {
         x as u32

@@ -33,7 +33,7 @@ module _ (n : ℕ) (step : ℕ → (ℕ → Cost) → Cost) (local : Local n ste
   only v h = downward (λ s. v s ≡ solution step n s) n (λ s ih. h s ∙ local s v (solution step n) ih ∙ sym (solves s))
 
 module _ (p : Problem) (wf : WellFormed p) where
-  pub bellman-local : Local (states p) (bellman p)
+  bellman-local : Local (states p) (bellman p)
   unfolding bellmanAt
   bellman-local s v v′ h = go (nodeAt p s) refl
     where

@@ -132,7 +132,7 @@ module _ (s : List ℕ) (entries budget : ℕ) (e : refusal s entries budget ≡
   start-below : startLeft s budget .value ≤ amount (startCost s)
   start-below = below-optimal (problemOf s) (problem-of h) (cellsLeft s budget) (cells-of after) (problemOf s .start)
 
-  -- where the start is settled, what there is of plans tells the number
+  -- a mark of the start in the bytes left is its mark in the cells that work leaves
   found : solved (startCell s (bytesAfter s entries budget)) ≡ true → solved (startLeft s budget) ≡ true
   found marked = rw end at marked
 

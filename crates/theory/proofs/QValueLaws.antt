@@ -16,7 +16,7 @@ use Rattle.theory.proofs.CostLaws.{both-mono, both-parts, both-amount, 
 use Rattle.theory.proofs.CostLaws.{lesser-amount}
 
 -- the one place where the two kinds are told apart
-pub joins : (k : Kind) → Joins (join k)
+joins : (k : Kind) → Joins (join k)
 unfolding join
 joins worst = record { mono = λ a b c d h g. omega arith; parts = λ a b. omega arith; cuts = λ a b. omega arith }
 joins whole = record { mono = λ a b c d h g. omega arith; parts = λ a b. omega arith; cuts = λ a b. omega arith }
@@ -30,7 +30,7 @@ module _ (k : Kind) where
   joined-mono v v′ (t ∷ ts) h =
       both-mono (joins k) (v t) (joined k v ts) (v′ t) (joined k v′ ts) (h t here) (joined-mono v v′ ts (λ u m. h u (there m)))
 
-  pub joined-same : (v v′ : ℕ → Cost) (ts : List ℕ) → ((t : ℕ) → t ∈ ts → v t ≡ v′ t) →
+  joined-same : (v v′ : ℕ → Cost) (ts : List ℕ) → ((t : ℕ) → t ∈ ts → v t ≡ v′ t) →
       joined k v ts ≡ joined k v′ ts
   unfolding joined
   joined-same v v′ [] h = refl
@@ -185,10 +185,6 @@ least-same = from-same min noPlan
 -- Of costs.
 pub cost-below : (f : Action → Cost) (acts : List Action) (i : ℕ) → i < length acts → leastCost f acts ⊑ f (actionAt acts i)
 cost-below f acts = from-below picks-lesser f none acts
-
-pub cost-above : (f : Action → Cost) (acts : List Action) (c : Cost) →
-    ((i : ℕ) → i < length acts → c ⊑ f (actionAt acts i)) → c ⊑ leastCost f acts
-cost-above f acts c = from-above picks-lesser f none c acts tt
 
 pub cost-attains : (f : Action → Cost) (acts : List Action) → (leastCost f acts ≡ none) ⊎ Attains (leastCost f acts) f acts
 cost-attains f acts = from-attains picks-lesser f none acts

@@ -5,6 +5,7 @@ use mathlib.Core.Bool.{true}
 use mathlib.Core.Option.{none, some}
 use mathlib.Core.List.{List, [], _∷_, _++_}
 use native.Mathlib.Omega.{arith}
+use native.Mathlib.Nat.{mul-le-mul-right}
 use lib.ListN.{length, replicate}
 use Rattle.model.specs.Problem.{Kind, whole, Action, decision, Problem, Cell, nodeAt, actionAt, cellOf, valueOf, solved, _∈_}
 use Rattle.model.specs.Limits.{ceiling}
@@ -42,10 +43,6 @@ unfolding both
 once-more n none = refl
 once-more n (some x) = ap some (omega arith)
 
-at-least-once : (n x : ℕ) → 0 < n → x ≤ n * x
-at-least-once zero x often = absurd (omega arith)
-at-least-once (suc n) x often = omega arith
-
 module _ (v : ℕ → Cost) where
   -- the sum over two lists, and over one state n times
   joined-parts : (ts us : List ℕ) → joined whole v (ts ++ us) ≡ both _+_ (joined whole v ts) (joined whole v us)
@@ -80,7 +77,7 @@ module _ (k : Kind) (is : k ≡ whole) (a : Action) (n t : ℕ) (often : 0 < n) 
   pub only-priced : (v : ℕ → ℕ) → a .cost + n * v t ≤ ceiling → q k v a ≡ a .cost + n * v t
   unfolding both
   only-priced v fits =
-      let small : v t ≤ ceiling = omega (arith, at-least-once n (v t) often) in
+      let small : v t ≤ ceiling = omega (arith, mul-le-mul-right {m = 1} {n = n} (v t) often) in
       ap amount (only-counts (λ u. costOf (v u))) ∙ (rw (cost-within (v t) small) (amount-some (a .cost + n * v t) fits))
 
 -- Action i of decision s of a whole problem lists the state t n times and no other.

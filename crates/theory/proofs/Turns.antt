@@ -179,8 +179,8 @@ module _ (p : Problem) (budget : ℕ) where
 
       -- a state that ends by itself, and a decision that has actions
       pub visit-end : (x : ℕ) → solvedAt w s ≡ false → endOf (nodeAt p s) ≡ some x →
-          visitTo s w ≡ update budget s x (λ w′. success (marked s 0 w′)) w
-      unfolding finish onTest
+          visitTo s w ≡ finish budget s x w
+      unfolding onTest
       visit-end x e ends = unfolded ∙ (rw e (open-end p budget visitTo s x w (nodeAt p s) ends))
 
       pub visit-decision : (acts : List Action) → 0 < length acts → solvedAt w s ≡ false → nodeAt p s ≡ decision acts →

@@ -79,7 +79,7 @@ later r lead (failure w″) y = (then lead (y .0), y .1)
 later r lead (halt w″) y = (then lead (y .0), y .1, y .2)
 
 -- a decision that ends by itself has no action, and ends at none
-pub barren : (acts : List Action) (x : ℕ) → endOf (decision acts) ≡ some x → (length acts ≡ 0) × (x ≡ noPlan)
+barren : (acts : List Action) (x : ℕ) → endOf (decision acts) ≡ some x → (length acts ≡ 0) × (x ≡ noPlan)
 barren [] x e = (refl, (cc))
 barren (a ∷ more) x e = not-some refl e
 

@@ -6,14 +6,11 @@ use mathlib.Core.Path.{_≡_, refl, sym, ap, _∙_}
 use mathlib.Core.List.{List}
 use native.Mathlib.Omega.{arith}
 use borrow.Author.Needs.{needs}
-use lib.Dec.{ltb}
 use lib.ListN.{length, drop}
 use Rattle.model.specs.Problem.{valueOf}
 use Rattle.model.specs.Read.{problemOf, cellsOf, actionRead}
-use Rattle.model.specs.Limits.{maxSuccessors, ceiling, noPlan}
-use Rattle.model.specs.Tests.{fork}
-use Rattle.model.specs.Cost.{cut}
-use Rattle.sheet.specs.Sheet.{ofKind}
+use Rattle.model.specs.Limits.{maxSuccessors}
+use Rattle.sheet.specs.Sheet.{ofKind, writtenPrice}
 use Rattle.sheet.proofs.Joining.{of-kind-fits, Sums, sums-none, sums-more, sums-price, sums-dearest}
 use Rattle.sheet.proofs.Laws.{action-inside, some-successor, head-room}
 use Rattle.sheet.proofs.pricing.price.Statement.{statement}
@@ -149,10 +146,6 @@ price-of c =
     let cost = c .before .before .word-to-long2 .ensures .0 ∙ c .before .before .before .action-cost .ensures in
     omega (arith, cost, c .before .of-kind .ensures)
 
--- the amount that is written for a price of x, where the largest value is `most`
-abbrev written-amount : ℕ → ℕ → ℕ
-written-amount most x = fork (ltb ceiling most) (λ _. noPlan) (λ _. cut x)
-
 returns : tie.Need-returns Inv-loop μ-loop
 returns c =
     let turn = c .before .before .before .before .before in
@@ -161,7 +154,7 @@ returns c =
     let last : at-loop .loop .j + 1 ≡ length (successorsAt (a .sheet .now) (a .at)) =
     omega (arith, at-loop .loop .inv .0, at-loop .before .before .next-action .ensures .0, c .before .before .before .before .if1 .taken) in
     let sums = sums-price (turned turn) (problemOf (a .sheet .now) .kind) (actionRead (drop (a .at) (a .sheet .now))) refl last in
-    let paid = ap (λ (x : ℕ). written-amount (turn .larger .result) x) (price-of c) in
+    let paid = ap (writtenPrice (turn .larger .result)) (price-of c) in
     (c .written .ensures .0 ∙ (paid ∙ sym sums), c .written .ensures .1, sums-dearest (turned turn) last)
 
 pub price-spec : {M : Type 1} → statement M
