@@ -1,6 +1,6 @@
 //! Values, marks and chosen checks of a sheet that has been worked to some extent: questions 5, 7 and 8 hold by the way they are made.
 
-use crate::draft::{Draft, Node, CEILING, NONE};
+use crate::draft::{Draft, Node, AT_CEILING, NONE};
 use crate::rng::Rng;
 
 #[derive(Clone, Copy)]
@@ -62,9 +62,8 @@ fn value(rng: &mut Rng, worked: Worked, top: u32, one_dent_in: usize) -> u32 {
 
 /// The value of an open junction without checks may be any, up to none.
 fn anything(rng: &mut Rng) -> u32 {
-    let ceiling = CEILING as u32;
     let drawn = rng.below(NONE as usize + 1) as u32;
-    rng.pick(&[0, drawn, drawn, ceiling - 1, ceiling, NONE])
+    rng.pick(&[0, drawn, drawn, AT_CEILING - 1, AT_CEILING, NONE])
 }
 
 /// Marks a state if its value has earned it, with any check that passes as the chosen one.

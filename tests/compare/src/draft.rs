@@ -31,6 +31,9 @@ pub struct Draft {
 
 pub const CEILING: u64 = 1_000_000_000;
 
+/// The ceiling as a value.
+pub const AT_CEILING: u32 = CEILING as u32;
+
 /// How none is written (S2.11).
 pub const NONE: u32 = 1_000_000_001;
 

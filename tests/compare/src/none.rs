@@ -155,7 +155,8 @@ mod tests {
     use super::{count, outcomes};
     use crate::calls::TABLE_BYTES;
     use crate::coverage::Coverage;
-    use crate::draft::{Action, Draft, Node, CEILING, NONE};
+    use crate::draft::{Action, Draft, Node, AT_CEILING, NONE};
+    use crate::rows::{sheet_f, sheet_g, sheet_h};
     use sweep::Sheet;
 
     fn accepted(bytes: &[u8]) -> Sheet {
@@ -164,14 +165,6 @@ mod tests {
 
     fn junction(checks: &[(u32, &[u16])]) -> Node {
         Node::Decision(checks.iter().map(|&(cost, successors)| Action { cost, successors: successors.to_vec() }).collect())
-    }
-
-    fn sheet_g() -> Draft {
-        Draft::new(0, 0, vec![junction(&[(10, &[1]), (100, &[2])]), junction(&[]), Node::Terminal(30)])
-    }
-
-    fn sheet_h() -> Draft {
-        Draft::new(0, 0, vec![junction(&[(10, &[1]), (100, &[1])]), junction(&[])])
     }
 
     /// A junction with one check (1, findings 1, 2 and 3), of which this one has no checks; the others are endings that cost 5.
@@ -195,7 +188,7 @@ mod tests {
     #[test]
     fn outcomes_that_are_due() {
         let ended = |bytes: &[u8]| [100, 101, 102, 103, 104].map(|number| outcomes(&accepted(bytes), &[number]).is_ok());
-        assert_eq!(ended(&sheet_g().bytes()), [true, false, true, false, false]);
+        assert_eq!(ended(&sheet_g(0).bytes()), [true, false, true, false, false]);
         assert_eq!(ended(&sheet_h().bytes()), [false, false, true, true, false]);
         assert_eq!(ended(include_bytes!("../../../samples/no-check-left-over.sheet")), [false, true, true, false, false]);
         assert_eq!(ended(include_bytes!("../../../samples/a.sheet")), [true, false, true, false, false]);
@@ -204,22 +197,22 @@ mod tests {
     #[test]
     fn worked_sheets() {
         let beside = "a stage in the middle has no checks; raised from 0; settled beside a check that is none";
-        assert_eq!(counted(&sheet_g(), u64::MAX), beside);
+        assert_eq!(counted(&sheet_g(0), u64::MAX), beside);
         let every = "every check of the start is none; raised from 0; the last stage has no checks";
         assert_eq!(counted(&sheet_h(), u64::MAX), every);
-        assert_eq!(counted(&Draft::new(0, 0, vec![junction(&[])]), u64::MAX), "raised from 0; the start has no checks");
+        assert_eq!(counted(&sheet_f(), u64::MAX), "raised from 0; the start has no checks");
         assert_eq!(counted(&sheet_h(), 1), "");
     }
 
     #[test]
     fn values_at_the_outset() {
         let from = |value| {
-            let mut draft = Draft::new(0, 0, vec![junction(&[])]);
+            let mut draft = sheet_f();
             draft.states[0].value = value;
             counted(&draft, u64::MAX)
         };
         let rest = "the start has no checks";
-        assert_eq!(from(CEILING as u32), format!("partly worked at the outset; raised from the ceiling; {rest}"));
+        assert_eq!(from(AT_CEILING), format!("partly worked at the outset; raised from the ceiling; {rest}"));
         assert_eq!(from(7), format!("partly worked at the outset; raised from between 0 and the ceiling; {rest}"));
         assert_eq!(from(NONE), format!("partly worked at the outset; settled without a raise; {rest}"));
     }

@@ -1,13 +1,11 @@
 //! Damage of sheets that have a junction without checks: each question on both sides of none (S2.11).
 
 use crate::cells;
-use crate::draft::{Draft, Node, CEILING, NONE};
+use crate::draft::{Draft, Node, AT_CEILING, NONE};
 use crate::rng::Rng;
 
 /// Says whether it found a stage to damage.
 type InDraft = fn(&mut Draft, &mut Rng) -> bool;
-
-const CEILING_32: u32 = CEILING as u32;
 
 /// Those that need certain checks stand there more than once: they miss often.
 const OF_NONE: [InDraft; 23] = [
@@ -48,7 +46,7 @@ pub fn draft(draft: &mut Draft, rng: &mut Rng) {
 /// Question 8: a settled junction without checks is at none.
 fn settled_elsewhere(draft: &mut Draft, rng: &mut Rng) -> bool {
     let Some(number) = any(draft, rng, |draft, s| draft.emptied(s)) else { return false };
-    let value = rng.pick(&[0, 0, CEILING_32, CEILING_32, CEILING_32 - 1, CEILING_32 - 1, NONE, 7]);
+    let value = rng.pick(&[0, 0, AT_CEILING, AT_CEILING, AT_CEILING - 1, AT_CEILING - 1, NONE, 7]);
     let state = &mut draft.states[number];
     (state.value, state.mark, state.chosen) = (value, 1, 0);
     unwork(draft, number);
@@ -82,12 +80,12 @@ fn ending_at_none(draft: &mut Draft, rng: &mut Rng) -> bool {
 
 /// Question 7: an open junction at none or at the ceiling, although one of its checks is below; where one is none already, if there is any.
 fn raised_too_far(draft: &mut Draft, rng: &mut Rng) -> bool {
-    let below: Wanted = |draft, s| !draft.actions(s).is_empty() && draft.top(s) < CEILING_32;
+    let below: Wanted = |draft, s| !draft.actions(s).is_empty() && draft.top(s) < AT_CEILING;
     let beside: Wanted = |draft, s| draft.actions(s).iter().any(|action| draft.price(action) == u64::from(NONE));
     let both: Wanted = if (0..draft.states.len()).any(|s| below(draft, s) && beside(draft, s)) { beside } else { below };
     let Some(number) = any(draft, rng, |draft, s| below(draft, s) && both(draft, s)) else { return false };
     let state = &mut draft.states[number];
-    (state.value, state.mark, state.chosen) = (rng.pick(&[NONE, CEILING_32]), 0, 0);
+    (state.value, state.mark, state.chosen) = (rng.pick(&[NONE, AT_CEILING]), 0, 0);
     true
 }
 
@@ -104,14 +102,14 @@ fn finding_opened(draft: &mut Draft, rng: &mut Rng) -> bool {
 /// Question 8: a junction is settled at the ceiling, and the price of its chosen check is none.
 fn ceiling_for_none(draft: &mut Draft, rng: &mut Rng) -> bool {
     let Some(number) = settled_at(draft, rng, NONE) else { return false };
-    draft.states[number].value = CEILING_32;
+    draft.states[number].value = AT_CEILING;
     unwork(draft, number);
     true
 }
 
 /// Question 7: a junction is settled at none, and the price of its chosen check is the ceiling.
 fn none_for_ceiling(draft: &mut Draft, rng: &mut Rng) -> bool {
-    let Some(number) = settled_at(draft, rng, CEILING_32) else { return false };
+    let Some(number) = settled_at(draft, rng, AT_CEILING) else { return false };
     draft.states[number].value = NONE;
     true
 }

@@ -151,9 +151,8 @@ fn at_most(sheet: &Sheet, state: usize) -> Cell {
 mod tests {
     use super::count_refused;
     use crate::coverage::Coverage;
-    use crate::draft::{Action, Draft, Node, CEILING, NONE};
-
-    const AT_CEILING: u32 = CEILING as u32;
+    use crate::draft::{Draft, Node, AT_CEILING, NONE};
+    use crate::rows::{sheet_f, sheet_g, sheet_h};
 
     /// What is counted of a sheet that is refused by this question.
     fn counted(bytes: &[u8], question: u32) -> String {
@@ -169,23 +168,6 @@ mod tests {
             (state.value, state.mark, state.chosen) = *cell;
         }
         draft.bytes()
-    }
-
-    fn sheet_f() -> Draft {
-        Draft::new(0, 0, vec![Node::Decision(Vec::new())])
-    }
-
-    fn check(cost: u32, finding: u16) -> Action {
-        Action { cost, successors: vec![finding] }
-    }
-
-    fn sheet_g() -> Draft {
-        let first = Node::Decision(vec![check(10, 1), check(100, 2)]);
-        Draft::new(0, 0, vec![first, Node::Decision(Vec::new()), Node::Terminal(30)])
-    }
-
-    fn sheet_h() -> Draft {
-        Draft::new(0, 0, vec![Node::Decision(vec![check(10, 1), check(100, 1)]), Node::Decision(Vec::new())])
     }
 
     #[test]
@@ -205,22 +187,22 @@ mod tests {
         assert_eq!(f((NONE + 1, 0, 0)), "refused 5: 1,000,000,002 at a junction without checks");
         assert_eq!(f((NONE + 2, 0, 0)), "");
         assert_eq!(f((NONE + 1, 0, 1)), "");
-        assert_eq!(counted(&at(sheet_g(), &[(NONE + 1, 0, 0)]), 5), "refused 5: 1,000,000,002 at a junction");
+        assert_eq!(counted(&at(sheet_g(0), &[(NONE + 1, 0, 0)]), 5), "refused 5: 1,000,000,002 at a junction");
         assert_eq!(
-            counted(&at(sheet_g(), &[(0, 0, 0), (0, 0, 0), (NONE + 1, 0, 0)]), 5),
+            counted(&at(sheet_g(0), &[(0, 0, 0), (0, 0, 0), (NONE + 1, 0, 0)]), 5),
             "refused 5: 1,000,000,002 at an ending"
         );
     }
 
     #[test]
     fn values() {
-        let g = |first, second| counted(&at(sheet_g(), &[(first, 0, 0), (second, 0, 0)]), 7);
+        let g = |first, second| counted(&at(sheet_g(0), &[(first, 0, 0), (second, 0, 0)]), 7);
         assert_eq!(g(NONE, NONE), "refused 7: a junction at none beside a check that is none");
         assert_eq!(g(AT_CEILING, NONE), "refused 7: a junction at the ceiling beside a check that is none");
         assert_eq!(g(NONE, AT_CEILING), "");
         assert_eq!(g(101, NONE), "");
-        assert_eq!(counted(&at(sheet_g(), &[(0, 0, 0), (0, 0, 0), (NONE, 0, 0)]), 7), "refused 7: an ending at none");
-        assert_eq!(counted(&at(sheet_g(), &[(0, 0, 0), (0, 0, 0), (31, 0, 0)]), 7), "");
+        assert_eq!(counted(&at(sheet_g(0), &[(0, 0, 0), (0, 0, 0), (NONE, 0, 0)]), 7), "refused 7: an ending at none");
+        assert_eq!(counted(&at(sheet_g(0), &[(0, 0, 0), (0, 0, 0), (31, 0, 0)]), 7), "");
     }
 
     /// Stage 1 is at the ceiling, so both checks are priced so.

@@ -2,11 +2,10 @@
 
 use crate::calls::TABLE_BYTES;
 use crate::coverage::Coverage;
-use crate::draft::{Action, Draft, Node, CEILING, NONE};
+use crate::draft::{Action, Draft, Node, AT_CEILING, CEILING, NONE};
 use crate::price;
 
 const LARGEST: u64 = u64::MAX;
-const AT_CEILING: u32 = CEILING as u32;
 const NO_PLAN: u64 = NONE as u64;
 
 type Solve = fn(&mut [u8], &mut [u8], u64, &mut [u8]) -> u32;
@@ -65,7 +64,7 @@ fn one_ending_at(value: u32) -> Vec<u8> {
     but(one_ending(70), |ending| ending.states[0].value = value)
 }
 
-fn sheet_f() -> Draft {
+pub fn sheet_f() -> Draft {
     Draft::new(0, 0, vec![Node::Decision(Vec::new())])
 }
 
@@ -74,12 +73,12 @@ fn sheet_f_at(value: u32, mark: u8, chosen: u8) -> Vec<u8> {
     but(sheet_f(), |f| (f.states[0].value, f.states[0].mark, f.states[0].chosen) = (value, mark, chosen))
 }
 
-fn sheet_g(kind: u8) -> Draft {
+pub fn sheet_g(kind: u8) -> Draft {
     let first = Node::Decision(vec![check(10, &[1]), check(100, &[2])]);
     Draft::new(kind, 0, vec![first, Node::Decision(Vec::new()), Node::Terminal(30)])
 }
 
-fn sheet_h() -> Draft {
+pub fn sheet_h() -> Draft {
     let first = Node::Decision(vec![check(10, &[1]), check(100, &[1])]);
     Draft::new(0, 0, vec![first, Node::Decision(Vec::new())])
 }
