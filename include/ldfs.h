@@ -95,8 +95,8 @@ extern "C" {
                             that or more */
 #define LDFS_STOPPED 102 /* the budget is spent and the start is open: the price is a lower bound. No plan costs less, and from call to
                             call on the same sheet it never falls. Another call carries the sheet on */
-#define LDFS_NONE 103    /* the start is settled at LDFS_NO_PLAN, which is the price: there is no complete plan. Every choice of checks
-                            leads to a junction that has none */
+#define LDFS_NONE 103    /* the start is settled at LDFS_NO_PLAN, which is the price: there is no complete plan. By whatever checks are
+                            chosen, some run comes to a junction that has none */
 
 /*
  * Works the sheet until its start is settled or the budget of raises is spent [S9].
