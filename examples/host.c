@@ -42,6 +42,7 @@ static const char *const refusals[] = {
     "a value is above its ending's cost, or above the price of one of its junction's checks",
     "a stage is marked settled and cannot be",
     "the sheet is valid, and the budget is 0",
+    "a counted junction writes another number of checks than follow it",
 };
 
 /* A number of the sheet, most significant byte first. */
@@ -99,10 +100,10 @@ static int save(const char *name, size_t length)
     return good && (rename(temporary, name) == 0 || failure(name));
 }
 
-/* The end of a check's field, which is where the next field begins. */
-static const uint8_t *past(const uint8_t *check)
+/* The end of a field, by its own length, which is where the next field begins. */
+static const uint8_t *past(const uint8_t *field)
 {
-    return check + LDFS_FIELD_CONTENT + big(check + LDFS_FIELD_LENGTH, 2);
+    return field + LDFS_FIELD_CONTENT + big(field + LDFS_FIELD_LENGTH, 2);
 }
 
 /* A stage's field. The index table, as the last call left it, says where it is. */
@@ -145,7 +146,7 @@ static void print_plan(void)
             printf("stage %" PRIu32 " end value %" PRIu32 "\n", stage, value_of(stage));
             continue;
         }
-        const uint8_t *check = field + LDFS_JUNCTION_CHECKS;
+        const uint8_t *check = past(field); /* a counted junction's field is a byte longer than a plain one's */
         for (int i = 0; i < field[LDFS_JUNCTION_CHOSEN]; i++)
             check = past(check);
         printf("stage %" PRIu32 " check %d value %" PRIu32 " by %" PRIu32 "\n", stage, field[LDFS_JUNCTION_CHOSEN], value_of(stage),

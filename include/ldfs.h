@@ -25,9 +25,9 @@
  * or a stored sheet of before would no longer do, MINOR where something is added, PATCH where neither. A sheet's bytes hold no version.
  */
 #define LDFS_VERSION_MAJOR 2
-#define LDFS_VERSION_MINOR 2
+#define LDFS_VERSION_MINOR 3
 #define LDFS_VERSION_PATCH 0
-#define LDFS_VERSION "2.2.0"
+#define LDFS_VERSION "2.3.0"
 
 #ifdef __cplusplus
 extern "C" {
@@ -63,24 +63,29 @@ extern "C" {
 #define LDFS_ENDING_COST 3    /* 4 bytes */
 #define LDFS_ENDING_VALUE 7   /* 4 bytes */
 #define LDFS_ENDING_MARK 11   /* 1 byte: 0 open, 1 settled */
-#define LDFS_JUNCTION_TAG 3
-#define LDFS_JUNCTION_VALUE 3 /* 4 bytes */
+#define LDFS_JUNCTION_TAG 3   /* a plain junction */
+#define LDFS_COUNTED_TAG 5    /* a counted one, which also writes its number of checks [S3.6] */
+#define LDFS_JUNCTION_VALUE 3 /* 4 bytes; value, mark and chosen check stand at the same places in both forms */
 #define LDFS_JUNCTION_MARK 7  /* 1 byte: 0 open, 1 settled */
 #define LDFS_JUNCTION_CHOSEN 8 /* 1 byte: the number of the chosen check; 0 while open, and where the junction has no checks */
-#define LDFS_JUNCTION_CHECKS 9 /* the field of its check 0, if it has any: 0 to 16 follow one another */
+#define LDFS_JUNCTION_CHECKS 9 /* of a plain junction: the field of its check 0, if it has any: 0 to 16 follow one another */
+#define LDFS_COUNTED_NUMBER 9  /* of a counted one: its number of checks, 1 byte, */
+#define LDFS_COUNTED_CHECKS 10 /* and the field of its check 0. In both forms that stands at 3 plus the length of the junction's field */
 #define LDFS_CHECK_TAG 4
 #define LDFS_CHECK_COST 3     /* 4 bytes */
 #define LDFS_CHECK_FINDINGS 7 /* 2 bytes each: (length - 4) / 2 of them */
 
 /*
- * What ldfs_solve returns: a refusal, 1 to 9, which is the number of the first question that is answered no [S4, S5]. Each question is
- * settled for the whole sheet before the next, so refusal k means that questions 1 to k - 1 are answered yes and question k is not. The
- * sheet is as it was. 1 and 9 are about what the host lent; 2 to 8 are faults of the sheet ..
+ * What ldfs_solve returns: a refusal, 1 to 10, which is the number of the first question that is answered no [S4, S5]. The questions are put
+ * in the order of this list, in which 10 stands behind 4. Each is settled for the whole sheet before the next, so a refusal means that all
+ * questions above it here are answered yes, and its own is not. The sheet is as it was. 1 and 9 are about what the host lent; the others are
+ * faults of the sheet ..
  */
 #define LDFS_REFUSED_ROOM 1     /* [S4.1] the table has fewer than 16,384 bytes, or the result fewer than 24 [S9.6] */
 #define LDFS_REFUSED_SIZE 2     /* [S4.2] the sheet has fewer than 17 bytes, or more than 60,000 */
 #define LDFS_REFUSED_HEAD 3     /* [S4.3] it does not begin with a head: kind 0 or 1, 1 to 4,096 stages, start below their number */
 #define LDFS_REFUSED_FIELDS 4   /* [S4.4] what follows is not exactly those stages, in the format's order, counts and lengths */
+#define LDFS_REFUSED_COUNT 10   /* [S4.10] a counted junction writes another number of checks than follow it */
 #define LDFS_REFUSED_RANGES 5   /* [S4.5] a cost, a value (LDFS_NO_PLAN at most), a mark or a chosen check is out of its range */
 #define LDFS_REFUSED_FINDINGS 6 /* [S4.6] findings do not ascend, on a worst sheet strictly (on a whole sheet equal ones may stand side by
                                    side, and each counts [S2.10]), or one is not above its junction's number, or is no stage */
@@ -103,10 +108,10 @@ extern "C" {
  *
  *   sheet    the sheet's bytes; work changes values, marks and chosen checks, and a refusal changes nothing
  *   table    the index table, whatever it holds. When the sheet is worked, entry i becomes the byte offset of stage i's field and every
- *            entry past the last stage 0, also past the 4,096th. Refusals 2 to 9 make every entry 0; refusal 1 leaves the table as it
+ *            entry past the last stage 0, also past the 4,096th. Refusals 2 to 10 make every entry 0; refusal 1 leaves the table as it
  *            is. One to three bytes left over behind the last whole entry are not touched.
- *   budget   the most raises that this call may make. UINT64_MAX is as many as it takes. 0 works nothing and asks questions 1 to 8
- *            only: LDFS_REFUSED_BUDGET then says that the sheet is valid, and 2 to 8 is the sheet's fault.
+ *   budget   the most raises that this call may make. UINT64_MAX is as many as it takes. 0 works nothing and asks the other questions
+ *            only: LDFS_REFUSED_BUDGET then says that the sheet is valid, and 2 to 8 and 10 are the sheet's fault.
  *   result   price, passes and raises, in the first 24 bytes, on every return, with 0 for each when the call is refused; bytes after them
  *            keep their content. With fewer than 24 the call is refused 1, and all three slices keep theirs.
  *

@@ -29,8 +29,10 @@ def check(cost, findings):
     return field(4, cost.to_bytes(4, "big") + b"".join(f.to_bytes(2, "big") for f in findings))
 
 
-def junction(checks, value=0, mark=OPEN, chosen=0):
-    own = field(3, value.to_bytes(4, "big") + bytes([mark, chosen]))
+def junction(checks, value=0, mark=OPEN, chosen=0, count=None):
+    """A plain junction; or, with a count, a counted one, which writes it, whatever the number of its checks."""
+    content = value.to_bytes(4, "big") + bytes([mark, chosen])
+    own = field(3, content) if count is None else field(5, content + bytes([count]))
     return own + b"".join(check(cost, findings) for cost, findings in checks)
 
 
@@ -112,6 +114,17 @@ def sheet_i():
     ])
 
 
+def sheet_j(lost=False):
+    """Sheet J of the worked examples (S11): sheet A with junction 0 counted, its number 2, also where the field of its check 1 is lost."""
+    checks = [(200, [1, 3]), (500, [3])]
+    return sheet(WORST, [
+        junction(checks[:1] if lost else checks, count=2),
+        junction([(400, [2, 3])]),
+        ending(100),
+        ending(0),
+    ])
+
+
 def many_stages(stages):
     """A junction whose one check (100) leads to the first ending and to the last, and endings, each of which costs its own number."""
     return sheet(WORST, [junction([(100, [1, stages - 1])])] + [ending(number) for number in range(1, stages)])
@@ -170,6 +183,8 @@ SAMPLES = {
     # junctions that have no check left: no complete plan, and a plan beside it that costs the ceiling or more
     "no-check-left.sheet": sheet_h(),
     "no-check-left-over.sheet": sheet_i(),
+    # a counted junction, which writes the number of its checks, beside a plain one
+    "counted.sheet": sheet_j(),
     # as many stages as a sheet may have, one more, and the deepest chain that 60,000 bytes hold
     "stages-4096.sheet": many_stages(4096),
     "stages-4097.sheet": many_stages(4097),
@@ -182,6 +197,7 @@ SAMPLES = {
     "refused-6.sheet": sheet_b(first_finding=0),
     "refused-7.sheet": sheet_b(value=101),
     "refused-8.sheet": sheet_b(mark=SETTLED),
+    "refused-10.sheet": sheet_j(lost=True),
 }
 
 

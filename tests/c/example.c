@@ -96,8 +96,29 @@ static const uint8_t sheet_h[] = {
 };
 enum { H_STAGE_1 = 35 };
 
-/* Where sheets have the field of stage 0, a junction, and that of its check 0. */
+/* Sheet J: sheet A with junction 0 counted, which writes that it has 2 checks. */
+static const uint8_t sheet_j[] = {
+    1, 0, 5, 0, 0, 4, 0, 0,                /* head: kind 0, 4 stages, start 0 */
+    5, 0, 7, 0, 0, 0, 0, 0, 0, 2,          /* stage 0, a counted junction: value 0, open, nothing chosen, 2 checks */
+    4, 0, 8, 0, 0, 0, 200, 0, 1, 0, 3,     /*   check 0: cost 200, findings 1 and 3 */
+    4, 0, 6, 0, 0, 1, 244, 0, 3,           /*   check 1: cost 500, finding 3 */
+    3, 0, 6, 0, 0, 0, 0, 0, 0,             /* stage 1, a plain junction */
+    4, 0, 8, 0, 0, 1, 144, 0, 2, 0, 3,     /*   check 0: cost 400, findings 2 and 3 */
+    2, 0, 9, 0, 0, 0, 100, 0, 0, 0, 0, 0,  /* stage 2, an ending: cost 100, value 0, open */
+    2, 0, 9, 0, 0, 0, 0, 0, 0, 0, 0, 0,    /* stage 3, an ending: cost 0 */
+};
+enum { J_CHECK_1 = 29, J_STAGE_1 = 38 };
+static const uint32_t offsets_j[A_STAGES] = {8, 38, 58, 70};
+
+/* Where sheets have the field of stage 0, a junction, and that of its check 0, where that junction is plain. */
 enum { STAGE_0 = 8, CHECK_0 = STAGE_0 + LDFS_JUNCTION_CHECKS };
+
+/* Where J has the number of junction 0 and the field of its check 0, and the length of a counted junction's content. */
+enum { J_NUMBER = STAGE_0 + LDFS_COUNTED_NUMBER, J_CHECK_0 = STAGE_0 + LDFS_COUNTED_CHECKS };
+enum { COUNTED_LENGTH = LDFS_COUNTED_CHECKS - LDFS_FIELD_CONTENT };
+
+/* A copy of one of these sheets has no more bytes. */
+enum { COPY_MOST = 100 };
 
 /* A check has no more findings than these. */
 enum { FINDINGS_MOST = 16 };
@@ -139,6 +160,12 @@ static void put_big(uint8_t *at, uint32_t x)
 {
     for (int i = 0; i < 4; i++)
         at[i] = (uint8_t)(x >> (24 - 8 * i));
+}
+
+/* The end of a field, by its own length: behind a junction's field, in either form, its check 0 begins. */
+static const uint8_t *past(const uint8_t *field)
+{
+    return field + LDFS_FIELD_CONTENT + big(field + LDFS_FIELD_LENGTH, 2);
 }
 
 /* One call, as a host makes it. */
@@ -230,7 +257,7 @@ static void sheet_a_in_steps(void)
 /* A fresh copy of a sheet, of a kind, in one call: settled, with price, passes and raises. */
 static void settles(const char *name, const uint8_t *sheet, size_t length, uint8_t kind, uint64_t price, uint64_t passes, uint64_t raises)
 {
-    uint8_t copy[sizeof sheet_c];
+    uint8_t copy[COPY_MOST];
     memcpy(copy, sheet, length);
     copy[LDFS_HEAD_KIND] = kind;
     solve_expecting(name, copy, length, UINT64_MAX, LDFS_SETTLED, price, passes, raises);
@@ -322,7 +349,7 @@ static void most_stages(void)
     expect_rest_of_table(LDFS_STAGES_MOST, 7);
 }
 
-/* A refusal of 2 to 9: the result is 0, the sheet is as it was, and every entry of the table is 0. */
+/* A refusal of 2 to 10: the result is 0, the sheet is as it was, and every entry of the table is 0. */
 static void refused(const char *name, const uint8_t *sheet, size_t length, uint64_t budget, uint32_t number)
 {
     static uint8_t copy[MOST_BYTES];
@@ -334,10 +361,10 @@ static void refused(const char *name, const uint8_t *sheet, size_t length, uint6
     expect_rest_of_table(0, 7);
 }
 
-/* Sheet A, B or D with one byte changed. */
+/* Sheet A, B, D or J with one byte changed. */
 static const uint8_t *changed(const uint8_t *sheet, size_t length, size_t place, uint8_t byte)
 {
-    static uint8_t copy[sizeof sheet_a];
+    static uint8_t copy[COPY_MOST];
     memcpy(copy, sheet, length);
     copy[place] = byte;
     return copy;
@@ -589,6 +616,124 @@ static void no_check_left(void)
     refused("one ending without its last byte", ending_70, sizeof ending_70 - 1, UINT64_MAX, LDFS_REFUSED_FIELDS);
 }
 
+/* J in one call: the offsets, and the plan behind the counted junction, which keeps its form and its number [S11.42]. */
+static void sheet_j_at_once(void)
+{
+    uint8_t sheet[sizeof sheet_j];
+    memcpy(sheet, sheet_j, sizeof sheet);
+    memset(table, 7, sizeof table);
+    solve_expecting("sheet J", sheet, sizeof sheet, UINT64_MAX, LDFS_SETTLED, 500, 3, 3);
+    for (size_t i = 0; i < A_STAGES; i++)
+        expect(little(table + LDFS_ENTRY_BYTES * i, LDFS_ENTRY_BYTES) == offsets_j[i], "offset of a stage");
+    expect_rest_of_table(A_STAGES, 7);
+
+    const uint8_t *first = sheet + little(table, LDFS_ENTRY_BYTES);
+    const uint8_t *check = past(past(first));
+    expect(first[0] == LDFS_COUNTED_TAG && big(first + LDFS_FIELD_LENGTH, 2) == COUNTED_LENGTH && sheet[J_NUMBER] == 2, "its form stays");
+    expect(big(first + LDFS_JUNCTION_VALUE, 4) == 500 && first[LDFS_JUNCTION_MARK] == 1, "stage 0: value 500, settled");
+    expect(first[LDFS_JUNCTION_CHOSEN] == 1 && big(check + LDFS_CHECK_FINDINGS, 2) == 3, "check 1 is chosen, which leads to stage 3");
+    expect(memcmp(past(first), sheet_j + J_CHECK_0, J_STAGE_1 - J_CHECK_0) == 0, "its checks stay");
+}
+
+/* A sheet without the bytes from one place to another. */
+static const uint8_t *without(const uint8_t *sheet, size_t length, size_t from, size_t to)
+{
+    static uint8_t copy[COPY_MOST];
+    memcpy(copy, sheet, from);
+    memcpy(copy + from, sheet + to, length - to);
+    return copy;
+}
+
+/* A, F or J with the plain junction that stands there counted. It is a byte longer. */
+static const uint8_t *with_counted(const uint8_t *sheet, size_t length, size_t at, uint8_t number)
+{
+    static uint8_t copy[COPY_MOST];
+    size_t checks = at + LDFS_JUNCTION_CHECKS;
+    memcpy(copy, sheet, checks);
+    copy[at] = LDFS_COUNTED_TAG;
+    copy[at + LDFS_FIELD_LENGTH + 1] = COUNTED_LENGTH;
+    copy[checks] = number;
+    memcpy(copy + checks + 1, sheet + checks, length - checks);
+    return copy;
+}
+
+/* J that writes 1, with another byte changed too. */
+static void wrong_number_and(const char *name, size_t place, uint8_t byte)
+{
+    uint8_t sheet[sizeof sheet_j];
+    memcpy(sheet, sheet_j, sizeof sheet);
+    sheet[J_NUMBER] = 1;
+    sheet[place] = byte;
+    refused(name, sheet, sizeof sheet, UINT64_MAX, LDFS_REFUSED_COUNT);
+}
+
+/* A counted junction that writes a number, with so many checks (1, finding 1), and an ending of cost 0. Its length. */
+enum { MANY_MOST = HEAD_BYTES + LDFS_COUNTED_CHECKS + 17 * 9 + ENDING_BYTES };
+
+static size_t make_many_checks(uint8_t *sheet, int checks, uint8_t number)
+{
+    static const uint8_t head[HEAD_BYTES] = {1, 0, 5, WORST, 0, 2, 0, 0};
+    static const uint8_t ending[ENDING_BYTES] = {LDFS_ENDING_TAG, 0, 9};
+    const uint8_t junction[] = {LDFS_COUNTED_TAG, 0, COUNTED_LENGTH, 0, 0, 0, 0, 0, 0, number};
+    memcpy(sheet, head, sizeof head);
+    memcpy(sheet + STAGE_0, junction, sizeof junction);
+    uint8_t *at = sheet + STAGE_0 + sizeof junction;
+    for (int i = 0; i < checks; i++)
+        at = put_check(at, 1, 1, 1);
+    memcpy(at, ending, sizeof ending);
+    return (size_t)(at + ENDING_BYTES - sheet);
+}
+
+/* As many checks as there may be, and one more; and none [S11.46, S11.47]. */
+static void numbers_at_the_limits(void)
+{
+    uint8_t sheet[MANY_MOST];
+    const uint8_t *alone = with_counted(sheet_f, sizeof sheet_f, STAGE_0, 0);
+    memcpy(sheet, alone, sizeof sheet_f + 1);
+    solve_expecting("F counted, the number 0", sheet, sizeof sheet_f + 1, UINT64_MAX, LDFS_NONE, LDFS_NO_PLAN, 1, 1);
+    expect_no_plan(sheet + STAGE_0);
+    alone = with_counted(sheet_f, sizeof sheet_f, STAGE_0, 1);
+    refused("F counted, the number 1", alone, sizeof sheet_f + 1, UINT64_MAX, LDFS_REFUSED_COUNT);
+
+    size_t length = make_many_checks(sheet, 16, 17);
+    refused("16 checks, the number 17", sheet, length, UINT64_MAX, LDFS_REFUSED_COUNT);
+    length = make_many_checks(sheet, 17, 17);
+    refused("17 checks, the number 17", sheet, length, UINT64_MAX, LDFS_REFUSED_FIELDS);
+    length = make_many_checks(sheet, 16, 16);
+    solve_expecting("16 checks, the number 16", sheet, length, UINT64_MAX, LDFS_SETTLED, 1, 2, 1);
+}
+
+/* Counted junctions, which write the number of their checks [S11.42 to S11.50]. */
+static void counted_junctions(void)
+{
+    static const uint8_t wrong[] = {1, 3, 0, 200};
+    uint8_t sheet[sizeof sheet_j];
+    const size_t a = sizeof sheet_a, j = sizeof sheet_j;
+    sheet_j_at_once();
+    settles("A, both junctions counted", with_counted(sheet_j, j, J_STAGE_1, 1), j + 1, WORST, 500, 3, 3);
+    memcpy(sheet, sheet_j, j);
+    solve_expecting("J, budget 2", sheet, j, 2, LDFS_STOPPED, 200, 2, 2);
+    solve_expecting("that sheet carried on", sheet, j, UINT64_MAX, LDFS_SETTLED, 500, 2, 1);
+
+    for (size_t i = 0; i < sizeof wrong; i++)
+        refused("J, another number", changed(sheet_j, j, J_NUMBER, wrong[i]), j, UINT64_MAX, LDFS_REFUSED_COUNT);
+    refused("A, junction 1 counted, the number 2", with_counted(sheet_a, a, offsets_a[1], 2), a + 1, UINT64_MAX, LDFS_REFUSED_COUNT);
+
+    size_t last = J_STAGE_1 - J_CHECK_1, first = J_CHECK_1 - J_CHECK_0;
+    settles("A without check 1", without(sheet_a, a, offsets_a[1] - last, offsets_a[1]), a - last, WORST, 700, 4, 6);
+    refused("J without check 1", without(sheet_j, j, J_CHECK_1, J_STAGE_1), j - last, UINT64_MAX, LDFS_REFUSED_COUNT);
+    refused("J without check 0", without(sheet_j, j, J_CHECK_0, J_CHECK_1), j - first, UINT64_MAX, LDFS_REFUSED_COUNT);
+    numbers_at_the_limits();
+
+    /* Question 10 is put after question 4 and before questions 5 to 9. */
+    refused("J, the number 1 and the last field cut", changed(sheet_j, j, J_NUMBER, 1), j - 1, UINT64_MAX, LDFS_REFUSED_FIELDS);
+    wrong_number_and("J, the number 1 and check cost 0", J_CHECK_0 + LDFS_CHECK_COST + 3, 0);
+    wrong_number_and("J, the number 1 and finding 0", J_CHECK_0 + LDFS_CHECK_FINDINGS + 1, 0);
+    refused("J, the number 1 and budget 0", changed(sheet_j, j, J_NUMBER, 1), j, 0, LDFS_REFUSED_COUNT);
+    refused("J, tag 03 with length 7", changed(sheet_j, j, STAGE_0, LDFS_JUNCTION_TAG), j, UINT64_MAX, LDFS_REFUSED_FIELDS);
+    refused("A, tag 05 with length 6", changed(sheet_a, a, STAGE_0, LDFS_COUNTED_TAG), a, UINT64_MAX, LDFS_REFUSED_FIELDS);
+}
+
 static void every_refusal(void)
 {
     const size_t a = sizeof sheet_a, b = sizeof sheet_b;
@@ -603,7 +748,7 @@ static void every_refusal(void)
     refused("B, finding 1 replaced by 0", changed(sheet_b, b, B_FINDING_LOW, 0), b, UINT64_MAX, LDFS_REFUSED_FINDINGS);
     refused("B, junction value 101", changed(sheet_b, b, B_VALUE_LOW, 101), b, UINT64_MAX, LDFS_REFUSED_VALUES);
     refused("B, ending 1 settled at 0", changed(sheet_b, b, B_ENDING_MARK, 1), b, UINT64_MAX, LDFS_REFUSED_MARKS);
-    /* A budget of 0 asks questions 1 to 8: 9 where the sheet is valid, and its own number where it is not. */
+    /* A budget of 0 asks every other question first: 9 where the sheet is valid, and its own number where it is not. */
     refused("sheet A, budget 0", sheet_a, a, 0, LDFS_REFUSED_BUDGET);
     refused("check cost 0, budget 0", changed(sheet_a, a, A_FIRST_COST, 0), a, 0, LDFS_REFUSED_RANGES);
 }
@@ -630,6 +775,7 @@ int main(void)
     listed_several_times();
     one_junction_without_checks();
     no_check_left();
+    counted_junctions();
     every_refusal();
     if (failures > 0) {
         printf("%d not as expected\n", failures);

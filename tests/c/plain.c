@@ -12,7 +12,7 @@
 #define MOST_COST 1000000u
 #define MOST_STATES 4096u
 
-enum tag { HEAD = 1, TERMINAL = 2, DECISION = 3, ACTION = 4 };
+enum tag { HEAD = 1, TERMINAL = 2, PLAIN = 3, ACTION = 4, COUNTED = 5 };
 enum visit { FAILURE, SUCCESS, HALT };
 
 struct search {
@@ -22,6 +22,7 @@ struct search {
     unsigned states;
     unsigned start;
     bool whole;
+    bool counts_good; /* no counted junction was met that writes another number than that of its checks */
     uint64_t budget;
     uint64_t raises;
 };
@@ -79,6 +80,12 @@ static bool action_here(const struct search *w, const uint8_t *at)
     return at < end_of(w) && at[0] == ACTION;
 }
 
+/* behind the junction's own field, whose length is that of its form */
+static const uint8_t *first_action(const uint8_t *decision)
+{
+    return decision + 3 + decision[2];
+}
+
 static const uint8_t *next_action(const uint8_t *action)
 {
     return action + 3 + get16(action + 1);
@@ -120,7 +127,7 @@ static uint32_t price(const struct search *w, const uint8_t *action)
     return any_none(w, action) ? NONE : CEILING;
 }
 
-/* Questions 3 to 8; each answers whether the sheet passes. */
+/* Questions 3 to 8 and 10; each answers whether the sheet passes. */
 
 static bool head_good(struct search *w)
 {
@@ -142,19 +149,22 @@ static size_t field_length(const struct search *w, size_t at, uint8_t tag)
     return length <= w->length - at ? length : 0;
 }
 
+/* question 4; written numbers are held to the checks that follow on the way, and question 10 comes when all fields are read */
 static bool states_good(struct search *w)
 {
     size_t at = 8;
+    w->counts_good = true;
     for (unsigned state = 0; state < w->states; state++) {
         w->offsets[state] = (uint32_t)at;
         if (field_length(w, at, TERMINAL) == 12) {
             at += 12;
             continue;
         }
-        if (field_length(w, at, DECISION) != 9)
+        bool plain = field_length(w, at, PLAIN) == 9;
+        if (!plain && field_length(w, at, COUNTED) != 10)
             return false;
-        at += 9;
-        unsigned actions = 0;
+        at += plain ? 9 : 10;
+        unsigned written = w->bytes[at - 1], actions = 0;
         while (at < w->length && w->bytes[at] == ACTION) {
             size_t length = field_length(w, at, ACTION);
             if (length < 9 || length > 39 || length % 2 == 0 || actions == 16)
@@ -162,6 +172,8 @@ static bool states_good(struct search *w)
             at += length;
             actions++;
         }
+        if (!plain && written != actions)
+            w->counts_good = false;
     }
     return at == w->length;
 }
@@ -175,7 +187,7 @@ static bool numbers_good(const struct search *w, unsigned state)
     if (at[0] == TERMINAL)
         return get32(at + 3) <= MOST_COST;
     unsigned actions = 0;
-    for (const uint8_t *a = at + 9; action_here(w, a); a = next_action(a)) {
+    for (const uint8_t *a = first_action(at); action_here(w, a); a = next_action(a)) {
         uint32_t cost = get32(a + 3);
         if (cost < 1 || cost > MOST_COST)
             return false;
@@ -189,7 +201,7 @@ static bool order_good(const struct search *w, unsigned state)
     const uint8_t *at = state_at(w, state);
     if (at[0] == TERMINAL)
         return true;
-    for (const uint8_t *a = at + 9; action_here(w, a); a = next_action(a)) {
+    for (const uint8_t *a = first_action(at); action_here(w, a); a = next_action(a)) {
         unsigned least = state + 1;
         for (unsigned i = 0; i < successors(a); i++) {
             unsigned t = successor(a, i);
@@ -207,7 +219,7 @@ static bool value_good(const struct search *w, unsigned state)
     uint32_t value = get32(value_of(w, state));
     if (at[0] == TERMINAL)
         return value <= get32(at + 3);
-    for (const uint8_t *a = at + 9; action_here(w, a); a = next_action(a))
+    for (const uint8_t *a = first_action(at); action_here(w, a); a = next_action(a))
         if (price(w, a) < value)
             return false;
     return true;
@@ -221,7 +233,7 @@ static bool mark_good(const struct search *w, unsigned state)
         return true;
     if (at[0] == TERMINAL)
         return get32(value) == get32(at + 3);
-    const uint8_t *a = at + 9;
+    const uint8_t *a = first_action(at);
     if (!action_here(w, a))
         return get32(value) == NONE;
     for (unsigned i = 0; i < value[5]; i++)
@@ -248,6 +260,8 @@ static uint32_t refusal(struct search *w)
         return 3;
     if (!states_good(w))
         return 4;
+    if (!w->counts_good)
+        return 10;
     if (!all_good(w, numbers_good))
         return 5;
     if (!all_good(w, order_good))
@@ -304,7 +318,7 @@ static enum visit visit(struct search *w, unsigned state)
     }
     uint32_t value = get32(cell);
     uint8_t number = 0;
-    for (const uint8_t *a = at + 9; action_here(w, a); a = next_action(a), number++) {
+    for (const uint8_t *a = first_action(at); action_here(w, a); a = next_action(a), number++) {
         if (price(w, a) > value)
             continue;
         enum visit way = visit_all(w, a, value);
@@ -317,7 +331,7 @@ static enum visit visit(struct search *w, unsigned state)
         }
     }
     uint32_t least = NONE;
-    for (const uint8_t *a = at + 9; action_here(w, a); a = next_action(a)) {
+    for (const uint8_t *a = first_action(at); action_here(w, a); a = next_action(a)) {
         uint32_t x = price(w, a);
         if (x < least)
             least = x;

@@ -1,9 +1,11 @@
 /*
- * Measures the stack that ldfs_solve needs for the deepest sheets: chains of 3,332 junctions, the most that 60,000 bytes hold.
+ * Measures the stack that ldfs_solve needs for the deepest sheets: chains of 3,332 plain junctions, or of 3,156 counted ones, the most that
+ * 60,000 bytes hold.
  *
  * The call runs in a thread whose stack is filled with a pattern; what the call has overwritten is what it used. What the same thread
- * uses where it calls a function that does nothing is taken off. Three chains are worked: in one the deepest visit marks the ending, in one
- * it raises the last junction, and in one it comes to a junction without checks, which stands in the ending's place.
+ * uses where it calls a function that does nothing is taken off. Four chains are worked, one of them of counted junctions: in two the
+ * deepest visit marks the ending, in one it raises the last junction, and in one it comes to a junction without checks, which stands in the
+ * ending's place.
  *
  * A pattern shows only what was written. What the deepest visit reserves and leaves unwritten, and how far the empty thread reaches below
  * its own call, it does not show: together less than UNSEEN. It exits with 1 where a call may need more than the header says,
@@ -18,13 +20,14 @@
 #include <stdlib.h>
 #include <string.h>
 
-/* In bytes; the junction has one check of one finding, or none. */
-enum { HEAD = 8, ENDING = 12, JUNCTION = 18, EMPTY = 9 };
+/* In bytes; a junction's own field in either form, and a check of one finding. */
+enum { HEAD = 8, ENDING = 12, PLAIN = LDFS_JUNCTION_CHECKS, COUNTED = LDFS_COUNTED_CHECKS, CHECK = 9 };
 
 /* What the deepest visit does. */
 enum deepest { MARKS_ENDING, RAISES_JUNCTION, COMES_TO_NO_CHECKS };
 
-enum { DEEPEST = (LDFS_SHEET_MOST - HEAD - ENDING) / JUNCTION, STACK_BYTES = 16 << 20, PATTERN = 0xa5, COST = 7, UNSEEN = 1024 };
+enum { LINKS = LDFS_SHEET_MOST - HEAD - ENDING, DEEPEST = LINKS / (PLAIN + CHECK), DEEPEST_COUNTED = LINKS / (COUNTED + CHECK) };
+enum { STACK_BYTES = 16 << 20, PATTERN = 0xa5, COST = 7, UNSEEN = 1024 };
 
 static uint8_t sheet[LDFS_SHEET_MOST];
 static uint8_t table[LDFS_TABLE_LEAST];
@@ -38,29 +41,39 @@ static void put_big(uint8_t *at, uint32_t x)
         at[i] = (uint8_t)(x >> (24 - 8 * i));
 }
 
-/* A chain of so many junctions of cost COST and an ending of cost 0, or a junction without checks at 0 in its place; every value the price
-   of its check; but the last junction's value is 0 where it is to be raised, and those above it are the lower for it. */
-static void make_chain(uint32_t junctions, enum deepest deepest)
+/* A junction's own field, plain or counted with one check. What comes behind it is the answer. */
+static uint8_t *put_junction(uint8_t *at, size_t own, uint32_t value)
+{
+    at[0] = own == PLAIN ? LDFS_JUNCTION_TAG : LDFS_COUNTED_TAG;
+    at[2] = (uint8_t)(own - LDFS_FIELD_CONTENT);
+    put_big(at + LDFS_JUNCTION_VALUE, value);
+    if (own == COUNTED)
+        at[LDFS_COUNTED_NUMBER] = 1;
+    return at + own;
+}
+
+/* A chain of so many junctions of cost COST, whose own fields take so many bytes, and an ending of cost 0, or a junction without checks at
+   0 in its place; every value the price of its check; but the last junction's value is 0 where it is to be raised, and those above it are
+   the lower for it. */
+static void make_chain(uint32_t junctions, size_t own, enum deepest deepest)
 {
     uint8_t *at = sheet;
     const uint8_t head[HEAD] = {1, 0, 5, 0, (uint8_t)((junctions + 1) / 256), (uint8_t)((junctions + 1) % 256), 0, 0};
     memset(sheet, 0, sizeof sheet);
     memcpy(at, head, sizeof head);
     at += sizeof head;
-    for (uint32_t stage = 0; stage < junctions; stage++, at += JUNCTION) {
+    for (uint32_t stage = 0; stage < junctions; stage++, at += CHECK) {
         uint32_t below = junctions - stage - (deepest == RAISES_JUNCTION ? 1 : 0);
-        at[0] = 3;
+        at = put_junction(at, own, COST * below);
+        at[0] = 4;
         at[2] = 6;
-        put_big(at + 3, COST * below);
-        at[9] = 4;
-        at[11] = 6;
-        put_big(at + 12, COST);
-        at[16] = (uint8_t)((stage + 1) / 256);
-        at[17] = (uint8_t)((stage + 1) % 256);
+        put_big(at + 3, COST);
+        at[7] = (uint8_t)((stage + 1) / 256);
+        at[8] = (uint8_t)((stage + 1) % 256);
     }
     at[0] = deepest == COMES_TO_NO_CHECKS ? 3 : 2;
     at[2] = deepest == COMES_TO_NO_CHECKS ? 6 : 9;
-    sheet_length = (size_t)(at - sheet) + (deepest == COMES_TO_NO_CHECKS ? EMPTY : ENDING);
+    sheet_length = (size_t)(at - sheet) + (deepest == COMES_TO_NO_CHECKS ? PLAIN : ENDING);
 }
 
 /* A function of the same form, which does nothing. */
@@ -109,10 +122,10 @@ static size_t stack_used(void)
     return STACK_BYTES - untouched;
 }
 
-/* The stack that a chain of so many junctions needs. */
-static size_t measure(uint32_t junctions, enum deepest deepest)
+/* The stack that a chain of so many junctions needs, whose own fields take so many bytes. */
+static size_t measure(uint32_t junctions, size_t own, enum deepest deepest)
 {
-    make_chain(junctions, deepest);
+    make_chain(junctions, own, deepest);
     function = ldfs_solve;
     size_t all = stack_used();
     if (returned != (deepest == COMES_TO_NO_CHECKS ? LDFS_NONE : LDFS_SETTLED)) {
@@ -127,18 +140,21 @@ static size_t measure(uint32_t junctions, enum deepest deepest)
 int main(void)
 {
     /* Where memset and memcpy are looked up at their first use, that takes stack of its own: the first call is measured for nothing. */
-    measure(1, MARKS_ENDING);
-    size_t shallow = measure(1, MARKS_ENDING);
-    size_t marked = measure(DEEPEST, MARKS_ENDING);
-    size_t raised = measure(DEEPEST, RAISES_JUNCTION);
-    size_t none = measure(DEEPEST, COMES_TO_NO_CHECKS);
+    measure(1, PLAIN, MARKS_ENDING);
+    size_t shallow = measure(1, PLAIN, MARKS_ENDING);
+    size_t marked = measure(DEEPEST, PLAIN, MARKS_ENDING);
+    size_t raised = measure(DEEPEST, PLAIN, RAISES_JUNCTION);
+    size_t none = measure(DEEPEST, PLAIN, COMES_TO_NO_CHECKS);
+    size_t counted = measure(DEEPEST_COUNTED, COUNTED, MARKS_ENDING);
     size_t most = marked > raised ? marked : raised;
     most = most > none ? most : none;
+    most = most > counted ? most : counted;
     int enough = most + UNSEEN <= LDFS_STACK_BYTES;
     printf("1 junction: %zu bytes of stack\n", shallow);
     printf("%d junctions, the ending marked: %zu bytes\n", DEEPEST, marked);
     printf("%d junctions, the last one raised: %zu bytes\n", DEEPEST, raised);
     printf("%d junctions and one without checks: %zu bytes\n", DEEPEST, none);
+    printf("%d counted junctions, the ending marked: %zu bytes\n", DEEPEST_COUNTED, counted);
     printf("for each junction: %zu bytes\n", (most - shallow) / (DEEPEST - 1));
     printf("the header says %d: %s\n", LDFS_STACK_BYTES, enough ? "enough" : "NOT ENOUGH");
     return enough ? EXIT_SUCCESS : EXIT_FAILURE;

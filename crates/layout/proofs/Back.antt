@@ -1,25 +1,28 @@
 -- What is written reads back.
 use Prim.Native.Nat.{ℕ, zero, suc, _+_, _-_, _/_, _<_, _≤_}
 use mathlib.Core.Path.{_≡_, refl, ap, sym}
-use mathlib.Core.Bool.{true}
+use mathlib.Core.Bool.{true, false}
 use mathlib.Core.List.{List, [], _∷_, _++_, append-assoc}
 use native.Mathlib.Omega.{arith}
+use lib.Dec.{eqb}
 use borrow.Author.Tests.{eq-eqb, ne-eqb, le-leb, lt-ltb}
 use lib.ListN.{length, getD, drop, length-append}
 use lib.Seq.{drop-at, drop-drop}
 use Rattle.model.proofs.TestLaws.{true-all}
 use Rattle.model.specs.Tests.{also, all}
-use Rattle.model.specs.Problem.{Kind, worst, whole, Action, Node, terminal, decision, Problem, Cell, cell, states, cellOf}
-use Rattle.model.specs.Format.{be16, be32, actionTag, actionLength, successorsBytes, actionBytes, actionsBytes, nodeBytes}
+use Rattle.model.specs.Problem.{Kind, worst, whole, Action, Form, plain, counted, Node, terminal, decision, Problem, Cell, cell}
+use Rattle.model.specs.Problem.{states, cellOf}
+use Rattle.model.specs.Format.{be16, be32, terminalTag, decisionTag, actionTag, terminalLength, decisionLength, actionLength}
+use Rattle.model.specs.Format.{successorsBytes, actionBytes, actionsBytes, formBytes, nodeBytes}
 use Rattle.model.specs.Format.{nodesBytes, kindByte, write}
 use Rattle.model.specs.Limits.{maxStates, maxActions}
 use Rattle.model.specs.Read.{actionFits, successorsRead, actionRead, actionsGood, actionsRead, actionsLong}
-use Rattle.model.specs.Read.{pastActions, terminalFits, headerFits, decisionFits, nodesGood, nodesRead, cellsRead, kindOf}
+use Rattle.model.specs.Read.{pastActions, fieldFits, formRead, headerFits, decisionFits, nodesGood, nodesRead, cellsRead, kindOf}
 use Rattle.model.specs.Read.{problemOf, cellsOf}
 use Rattle.model.specs.Questions.{question3, question4}
 use Rattle.layout.specs.Shape.{FewSuccessors, ActionsShaped, NodesShaped, ChosenShaped, Shaped}
 use Rattle.layout.proofs.Bytes.{two, four}
-use Rattle.layout.proofs.Places.{action-length, no-action}
+use Rattle.layout.proofs.Places.{action-length, past-header, no-action}
 
 -- The byte of a kind.
 pub kind-back : (k : Kind) → kindOf (kindByte k) ≡ k
@@ -73,13 +76,24 @@ module _ (r : List ℕ) (none : getD r 0 0 ≡ actionTag → ⊥) where
       (good, refl, past)
 
 -- One state's field, with r behind it.
-terminal-fits : (cost : ℕ) (c : Cell) (r : List ℕ) → terminalFits (nodeBytes (terminal cost) c ++ r) ≡ true
-unfolding terminalFits nodeBytes be16 all
+terminal-fits : (cost : ℕ) (c : Cell) (r : List ℕ) → fieldFits terminalLength (nodeBytes (terminal cost) c ++ r) ≡ true
+unfolding fieldFits nodeBytes be16 all
 terminal-fits cost c r = rw (le-leb 12 (length (nodeBytes (terminal cost) c ++ r)) (omega arith))
 
-header-fits : (acts : List Action) (c : Cell) (r : List ℕ) → headerFits (nodeBytes (decision acts) c ++ r) ≡ true
-unfolding headerFits nodeBytes be16 all
-header-fits acts c r = rw (le-leb 9 (length (nodeBytes (decision acts) c ++ r)) (omega arith))
+form-back : (form : Form) (acts : List Action) (c : Cell) (r : List ℕ) → formRead (nodeBytes (decision form acts) c ++ r) ≡ form
+unfolding formRead nodeBytes decisionTag formBytes
+form-back plain acts c r = refl
+form-back (counted n) acts c r = refl
+
+header-fits : (form : Form) (acts : List Action) (c : Cell) (r : List ℕ) → headerFits (nodeBytes (decision form acts) c ++ r) ≡ true
+unfolding headerFits fieldFits formRead nodeBytes decisionTag decisionLength formBytes be16 all also
+header-fits plain acts c r = rw (le-leb 9 (length (nodeBytes (decision plain acts) c ++ r)) (omega arith))
+header-fits (counted n) acts c r = rw (le-leb 10 (length (nodeBytes (decision (counted n) acts) c ++ r)) (omega arith))
+
+other-tag : (form : Form) → eqb (decisionTag form) terminalTag ≡ false
+unfolding decisionTag
+other-tag plain = refl
+other-tag (counted n) = refl
 
 -- States: they are in place, and their nodes and their cells read back.
 abbrev NodesBack : List Node → List Cell → Type 0
@@ -98,10 +112,12 @@ nodes-back (terminal cost ∷ ns) (c ∷ cells) e h ch =
     let z : c .chosen ≡ 0 = ch 0 (omega arith) in
     rw (terminal-fits cost c (nodesBytes ns cells), four cost, four (c .value), ih .1, ih .2)
     (ih .0, refl, ap (λ (i : ℕ). cell (c .value) (c .mark) i ∷ cells) (sym z))
-nodes-back (decision acts ∷ ns) (c ∷ cells) e h ch =
+nodes-back (decision form acts ∷ ns) (c ∷ cells) e h ch =
+    let rest = nodesBytes ns cells in
     let ih = nodes-back ns cells (omega arith) (h .1) (λ s lt. ch (suc s) (omega arith)) in
-    let a = actions-back (nodesBytes ns cells) (no-action ns cells) maxActions acts (h .0 .0) (h .0 .1) in
-    rw (header-fits acts c (nodesBytes ns cells), four (c .value), a .0, a .1, a .2, ih .1, ih .2) (ih .0, refl, refl)
+    let a = actions-back rest (no-action ns cells) maxActions acts (h .0 .0) (h .0 .1) in
+    rw (header-fits form acts c rest, form-back form acts c rest, past-header form acts c rest, other-tag form, a .0, a .1, a .2)
+    (rw (four (c .value), ih .1, ih .2) (ih .0, refl, refl))
 
 module _ (p : Problem) (cells : List Cell) (h : Shaped p cells) where
   body : NodesBack (p .nodes) cells

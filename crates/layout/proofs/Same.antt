@@ -2,7 +2,7 @@
 use Prim.Native.Nat.{ℕ, zero, suc, _+_, _*_, _-_, _/_, _%_, _<_, _≤_}
 use mathlib.Core.Path.{_≡_, refl, ap, _∙_}
 use mathlib.Core.Bool.{Bool, true, false}
-use mathlib.Core.List.{List, _∷_, _++_, append-assoc}
+use mathlib.Core.List.{List, [], _∷_, _++_, append-assoc}
 use native.Mathlib.Omega.{arith}
 use native.Mathlib.Nat.{add-zero}
 use lib.Dec.{eqb}
@@ -11,12 +11,13 @@ use lib.ListN.{length, getD, drop, length-drop, drop-of-length-le}
 use lib.Seq.{drop-drop, drop-cons, getD-drop}
 use Rattle.model.proofs.TestLaws.{also-true, all-true}
 use Rattle.model.specs.Problem.{Node, terminal, decision, Cell, cell, cellOf}
-use Rattle.model.specs.Format.{Bytes, be16, be32, terminalTag, decisionTag, actionTag, terminalLength}
-use Rattle.model.specs.Format.{minActionLength, maxActionLength}
-use Rattle.model.specs.Format.{decisionLength, successorsBytes, actionBytes, actionsBytes, nodeBytes, nodesBytes, kindByte, write}
+use Rattle.model.specs.Format.{Bytes, be16, be32, terminalTag, countedTag, decisionTag, actionTag, terminalLength, decisionLength}
+use Rattle.model.specs.Format.{minActionLength, maxActionLength, decisionSize}
+use Rattle.model.specs.Format.{successorsBytes, actionBytes, actionsBytes, formBytes, nodeBytes, nodesBytes, kindByte, write}
 use Rattle.model.specs.Limits.{maxActions, maxStates}
 use Rattle.model.specs.Read.{tag, actionFits, successorsRead, actionRead, actionsGood, actionsRead, actionsLong}
-use Rattle.model.specs.Read.{pastActions, terminalFits, headerFits, decisionFits, nodesGood, nodesRead, cellsRead, kindOf}
+use Rattle.model.specs.Read.{pastActions, fieldFits, formRead, headerFits, pastHeader, decisionFits, decisionCell}
+use Rattle.model.specs.Read.{nodesGood, nodesRead, cellsRead, kindOf}
 use Rattle.model.specs.Read.{problemOf, cellsOf}
 use Rattle.model.specs.Questions.{question3, question4}
 use Rattle.layout.proofs.Heads.{head-says}
@@ -128,33 +129,50 @@ actions-shaped =
 
 -- One state's field.
 module _ (r : List ℕ) (byte : Bytes r) where
-  terminal-same : tag r ≡ terminalTag → terminalFits r ≡ true →
+  terminal-same : tag r ≡ terminalTag → fieldFits terminalLength r ≡ true →
       r ≡ nodeBytes (terminal (be32 r 3)) (cell (be32 r 7) (getD r 11 0) 0) ++ drop 12 r
-  unfolding terminalFits nodeBytes
+  unfolding fieldFits nodeBytes
   terminal-same is fits =
       let e = all-true _ fits in let l : be16 r 1 ≡ terminalLength = omega (arith, eqb-true) in
       let t = two-back r 1 byte in let p = four-back r 3 byte in let q = four-back r 7 byte in
       peel 12 0 r (omega (arith, leb-true)) ∙ cc
 
   module _ (fits : decisionFits r ≡ true) where
-    decision-parts : (tag r ≡ decisionTag) × (be16 r 1 ≡ decisionLength) × (9 ≤ length r)
-    unfolding decisionFits headerFits
-    decision-parts = omega (arith, leb-true, eqb-true, all-true _ (also-true _ _ fits .0))
+    decision-parts : let form = formRead r in
+        (tag r ≡ decisionTag form) × (be16 r 1 ≡ decisionLength form) × (decisionSize form ≤ length r)
+    unfolding decisionFits headerFits fieldFits
+    decision-parts =
+        let (tagged, field) = also-true _ _ (also-true _ _ fits .0) in omega (arith, leb-true, eqb-true, tagged, all-true _ field)
 
-    actions-fit : actionsGood maxActions (drop 9 r) ≡ true
+    actions-fit : actionsGood maxActions (pastHeader r) ≡ true
     unfolding decisionFits
     actions-fit = also-true _ _ fits .1
 
-    decision-same : r ≡ nodeBytes (decision (actionsRead maxActions (drop 9 r))) (cell (be32 r 3) (getD r 7 0) (getD r 8 0)) ++
-        pastActions maxActions (drop 9 r)
-    unfolding nodeBytes
-    decision-same =
-        let e = decision-parts in let t = two-back r 1 byte in let q = four-back r 3 byte in
-        let same = actions-same maxActions (drop 9 r) actions-fit (bytes-drop 9 r byte) in
-        peel 9 0 r (e .2) ∙ cc
+    -- the decision's own field, in its form
+    header-same : r ≡ nodeBytes (decision (formRead r) []) (decisionCell r) ++ pastHeader r
+    unfolding formRead decisionTag decisionLength formBytes nodeBytes actionsBytes
+    header-same = by-tag (eqb (tag r) countedTag) refl decision-parts
+      where
+        by-tag : (b : Bool) → eqb (tag r) countedTag ≡ b →
+            let form = formRead r in
+            (tag r ≡ decisionTag form) × (be16 r 1 ≡ decisionLength form) × (decisionSize form ≤ length r) →
+            r ≡ nodeBytes (decision (formRead r) []) (decisionCell r) ++ pastHeader r
+        by-tag true e h =
+            let t = two-back r 1 byte in let q = four-back r 3 byte in
+            rw e (let (tagged, long, room) = rw e at h in peel 10 0 r room ∙ cc)
+        by-tag false e h =
+            let t = two-back r 1 byte in let q = four-back r 3 byte in
+            rw e (let (tagged, long, room) = rw e at h in peel 9 0 r room ∙ cc)
 
-    decision-shaped : NodeShaped (decision (actionsRead maxActions (drop 9 r)))
-    decision-shaped = let h = actions-shaped maxActions (drop 9 r) actions-fit in (h .1, h .0)
+    decision-same : r ≡ nodeBytes (decision (formRead r) (actionsRead maxActions (pastHeader r))) (decisionCell r) ++
+        pastActions maxActions (pastHeader r)
+    unfolding nodeBytes actionsBytes
+    decision-same =
+        let same = actions-same maxActions (pastHeader r) actions-fit (bytes-drop (decisionSize (formRead r)) r byte) in
+        header-same ∙ simp append-assoc (cc)
+
+    decision-shaped : NodeShaped (decision (formRead r) (actionsRead maxActions (pastHeader r)))
+    decision-shaped = let h = actions-shaped maxActions (pastHeader r) actions-fit in (h .1, h .0)
 
 -- r is what n states with these nodes and cells write, and they have the shape.
 record Written (n : ℕ) (r : List ℕ) (ns : List Node) (cells : List Cell) : Type 0 where
@@ -199,8 +217,8 @@ nodes-written (suc n) r byte good = by-tag (eqb (tag r) terminalTag) refl (nodes
         rw e (written-cons (terminal-same r byte (eqb-true _ _ e) (f .0)) tt refl (ih (drop 12 r) (bytes-drop 12 r byte) (f .1)))
     by-tag false e ih =
         let f = also-true _ _ (rw e at good) in
-        let past = bytes-drop (actionsLong maxActions (drop 9 r)) (drop 9 r) (bytes-drop 9 r byte) in
-        let others = ih (pastActions maxActions (drop 9 r)) past (f .1) in
+        let past = bytes-drop (actionsLong maxActions (pastHeader r)) (pastHeader r) (bytes-drop (decisionSize (formRead r)) r byte) in
+        let others = ih (pastActions maxActions (pastHeader r)) past (f .1) in
         rw e (written-cons (decision-same r byte (f .0)) (decision-shaped r byte (f .0)) tt others)
 
 module _ (bs : List ℕ) (byte : Bytes bs) (head : question3 maxStates bs ≡ true) (body : question4 bs ≡ true) where

@@ -17,7 +17,7 @@ ActionsShaped (a ∷ more) = FewSuccessors (a .successors) × ActionsShaped more
 -- a decision has 0 to 16 actions, each with 1 to 16 successors
 abbrev pub NodeShaped : Node → Type 0
 NodeShaped (terminal cost) = Unit {0}
-NodeShaped (decision acts) = (length acts ≤ maxActions) × ActionsShaped acts
+NodeShaped (decision form acts) = (length acts ≤ maxActions) × ActionsShaped acts
 
 abbrev pub NodesShaped : List Node → Type 0
 NodesShaped [] = Unit {0}
@@ -26,7 +26,7 @@ NodesShaped (n ∷ ns) = NodeShaped n × NodesShaped ns
 -- nothing is chosen at a terminal: its field has no place for it
 abbrev pub ChosenShaped : Node → Cell → Type 0
 ChosenShaped (terminal cost) c = c .chosen ≡ 0
-ChosenShaped (decision acts) c = Unit {0}
+ChosenShaped (decision form acts) c = Unit {0}
 
 pub record Shaped (p : Problem) (cells : List Cell) : Type 0 where
   pub some : 1 ≤ states p

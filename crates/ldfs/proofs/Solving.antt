@@ -21,7 +21,7 @@ use Rattle.model.specs.Ldfs.{Search, searchOf, work}
 use Rattle.model.specs.Report.{outcomeAt, outcomeOf, cellsAfter, raisesOf, refused, onRefusal, answerUnder, bytesUnder}
 use Rattle.model.specs.Report.{refusedTable, tableUnder}
 use Rattle.layout.proofs.Index.{states-within, offsets-count}
-use Rattle.theory.proofs.LimitLaws.{sheet-raised, yes-accepted, refusals-left, room-yes, room-no}
+use Rattle.theory.proofs.LimitLaws.{SheetYes, by-number, sheet-raised, yes-accepted, refusals-left, room-yes, room-no}
 use Rattle.theory.proofs.Accepted.{asked-problem, asked-cells}
 use Rattle.theory.proofs.Sheets.{Stands, accepted-stands}
 use Rattle.sheet.specs.Sheet.{Within}
@@ -123,7 +123,7 @@ module _ (s t : List ℕ) (budget : ℕ) where
   unfolding answerUnder bytesUnder filledTable onRefusal
   worked-call e s′ t′ r f last = rw e (f .said, (f .bytes, last))
 
-  -- refused by questions 2 to 8
+  -- refused by a question about the sheet
   pub refused-by : (n : ℕ) → RefusedBy n ≡ verdict (servedRefusal s t) → (r : Answer) → r ≡ refused budget n →
       (t′ : List ℕ) → t′ ≡ askedTable s t → Filled s t budget r s t′
   unfolding verdict askedTable sheetRefusalUnder refusalUnder onRefusal
@@ -136,7 +136,7 @@ module _ (s t : List ℕ) (budget : ℕ) where
           let no = refused-more (checkQuestionsUnder limit s (length t)) (question 9 (λ _. question9 budget) ∷ []) k z in
           refused-call k no r (a ∙ ap (refused budget) same) t′ (last ∙ rw z)
 
-  -- accepted by questions 2 to 8
+  -- accepted by the questions about the sheet
   module _ (e : Accepted ≡ verdict (servedRefusal s t)) (byte : Bytes s) where
     none : servedRefusal s t ≡ 0
     unfolding verdict
@@ -150,11 +150,14 @@ module _ (s t : List ℕ) (budget : ℕ) where
     unfolding sheetRefusalUnder
     yes = none-no (checkQuestionsUnder limit s (length t)) refl none
 
+    sheet-yes : SheetYes limit s
+    sheet-yes = by-number limit s (yes .1)
+
     stands : Stands s (problemOf s) (cellsOf s)
-    stands = accepted-stands s byte (yes-accepted maxStates s (sheet-raised (omega arith) s (yes .1)))
+    stands = accepted-stands s byte (yes-accepted maxStates s (sheet-raised (omega arith) s sheet-yes))
 
     by-budget : refusal-served ≡ fork (question9 budget) (λ _. 0) (λ _. 9)
-    by-budget = refusals-left limit s (yes .1) (length t) budget ∙ rw (yes .0)
+    by-budget = refusals-left limit s sheet-yes (length t) budget ∙ rw (yes .0)
 
     module _ (t′ : List ℕ) (asked : t′ ≡ askedTable s t) where
       filled : t′ ≡ indexedBefore s t

@@ -42,7 +42,7 @@ module _ (p : Problem) (cells : List Cell) where
     where
       go : (n : Node) → nodeAt p t ≡ n → u ∈ chosenSuccessorsOf n (cellOf cells t) → Reach p (written cells) t u
       go (terminal cost) e m = absurd (elim m [ ])
-      go (decision acts) e m = onward e refl m arrived
+      go (decision form acts) e m = onward e refl m arrived
   step s t (onward e i v r) u m = onward e i v (step _ t r u m)
 
   pub reached-reach : (n t : ℕ) → reachedBelow p cells n t ≡ true → Reach p (written cells) (p .start) t
@@ -55,7 +55,7 @@ module _ (p : Problem) (cells : List Cell) where
 
   -- where the start's plan is complete, a stage that it reaches has its chosen check
   pub reached-chooses : Closed p (written cells) (p .start) → (n t : ℕ) → reachedBelow p cells n t ≡ true → Chooses p cells t
-  reached-chooses complete n t h acts e =
-      let (i, is, exists) = complete t acts (reached-reach n t h) e in
+  reached-chooses complete n t h form acts e =
+      let (i, is, exists) = complete t form acts (reached-reach n t h) e in
       let same : i ≡ cellOf cells t .chosen = cc in
       rw (← same) exists

@@ -1,6 +1,6 @@
 -- The definitions give the text of sheet A (S11.16), of sheet C, two of whose findings are equally dear (S11.17 to S11.19), of sheet E,
--- which lists findings several times (S11.30), of sheets G and H, which have a junction without checks (S11.41), and each outcome's line
--- one.
+-- which lists findings several times (S11.30), of sheets G and H, which have a junction without checks (S11.41), of sheet J, which has a
+-- counted one (S11.51), and each outcome's line one.
 use Prim.Native.Nat.{ℕ}
 use mathlib.Core.Path.{_≡_, refl}
 use mathlib.Core.List.{List, [], _∷_, _++_}
@@ -9,7 +9,7 @@ use Rattle.model.proofs.Computing.{computing}
 use Rattle.model.specs.Limits.{maxStates}
 use Rattle.model.specs.Report.{largest}
 use Rattle.model.specs.Problem.{worst}
-use Rattle.model.specs.Rows.{sheetA, sheetC, sheetE, sheetG, sheetH}
+use Rattle.model.specs.Rows.{sheetA, sheetC, sheetE, sheetG, sheetH, sheetJ}
 use Rattle.listing.specs.Text.{ascii, digits}
 use Rattle.listing.specs.Listing.{lineOne, listed, reachedBelow, stateLines, listing}
 
@@ -53,6 +53,11 @@ printed-G = refl
 pub printed-H : listing sheetH maxStates ≡ ascii "none 1000000001 3 3\n"
 unfolding computing digits listing
 printed-H = refl
+
+-- S11.51: that of A
+pub printed-J : listing (sheetJ 2) maxStates ≡ ascii "settled 500 3 3\nstage 0 check 1 value 500 by 3\nstage 3 end value 0\n"
+unfolding computing digits listed reachedBelow stateLines listing
+printed-J = refl
 
 pub printed-refused : listing [] maxStates ≡ ascii "refused 2\n"
 unfolding computing digits listing

@@ -11,7 +11,7 @@ use native.Mathlib.Nat.{eq-or-lt-of-le}
 use borrow.Author.Tests.{eq-eqb}
 use Rattle.model.specs.declared.Answer.{Answer}
 use Rattle.model.proofs.TestLaws.{true-also}
-use Rattle.model.specs.Problem.{worst, Action, Node, decision, Problem, Cell, states, nodeAt, actionAt, cellOf, valueOf}
+use Rattle.model.specs.Problem.{worst, Action, Form, Node, decision, Problem, Cell, states, nodeAt, actionAt, cellOf, valueOf}
 use Rattle.model.specs.Problem.{_∈_}
 use Rattle.model.specs.Format.{Bytes}
 use Rattle.model.specs.Read.{problemOf, cellsOf}
@@ -128,14 +128,14 @@ module _ (s : List ℕ) (bytes : Bytes s) (entries : ℕ) where
   lines-once = each-once (problemOf s) (cellsOf after) (states (problemOf s))
 
   -- S10.3: what a junction's line names by `by` is the dearest finding of its chosen check (S2.9), by the values as work left them
-  pub line-names : number (answer .outcome) ≡ 100 → (t : ℕ) (acts : List Action) → nodeAt (problemOf s) t ≡ decision acts →
+  pub line-names : number (answer .outcome) ≡ 100 → (t : ℕ) {form : Form} (acts : List Action) → nodeAt (problemOf s) t ≡ decision form acts →
       reached (problemOf s) (cellsOf after) t ≡ true →
       Dearest (valueOf (cellsOf after)) (actionAt acts (cellOf (cellsOf after) t .chosen) .successors)
       (dearestChosen (problemOf s) (cellsOf after) t)
   line-names e t acts node has =
       let complete = demand2 s bytes entries largest .settled e .best .complete in
       names-dearest (problemOf s) (cellsOf after) (formed e) (consistent e) t acts node
-      (reached-chooses (problemOf s) (cellsOf after) complete t t has acts node)
+      (reached-chooses (problemOf s) (cellsOf after) complete t t has _ acts node)
 
   -- S10.9: on a worst sheet the run that begins at the start and goes on by `by` comes to an ending, every stage of it has a line, its
   -- checks and that ending cost the price together, and there is no other

@@ -11,7 +11,7 @@ use lib.ListN.{length, getD, take, drop, set, replicate, length-set, length-repl
 use lib.Seq.{take-all, take-suc, getD-set-same, getD-set-other}
 use Rattle.model.specs.Tests.{also}
 use Rattle.model.specs.Problem.{Action, Node, decision, Problem, Cell, states, nodeAt, cellOf}
-use Rattle.model.specs.Format.{actionOffset}
+use Rattle.model.specs.Format.{formOf, actionOffset}
 use Rattle.model.specs.Read.{actionRead, problemOf, cellsOf}
 use Rattle.sheet.specs.Sheet.{Within, Terminal, Decision, Priced}
 use Rattle.sheet.proofs.Laws.{is-terminal, is-decision, actionsAt}
@@ -66,11 +66,11 @@ state-within w lt = record { sheet = w .sheet; below = lt }
 
 -- The action that is chosen at a decision which the plan reaches.
 module _ {s t : List ℕ} (w : Listable s t) {i : ℕ} (d : Decision s t i) (chooses : Chooses (problemOf s) (cellsOf s) i) where
-  node : nodeAt (problemOf s) i ≡ decision (actionsAt (problemOf s) i)
+  node : nodeAt (problemOf s) i ≡ decision (formOf (nodeAt (problemOf s) i)) (actionsAt (problemOf s) i)
   node = is-decision (nodeAt (problemOf s) i) (d .tag)
 
   pub chosen-exists : cellOf (cellsOf s) i .chosen < length (actionsAt (problemOf s) i)
-  chosen-exists = chooses (actionsAt (problemOf s) i) node
+  chosen-exists = chooses _ (actionsAt (problemOf s) i) node
 
   module _ (o : ℕ) (at : o ≡ actionOffset (problemOf s) i (cellOf (cellsOf s) i .chosen)) where
     turn : Turn (problemOf s) i (cellOf (cellsOf s) i .chosen) o

@@ -5,7 +5,7 @@ use mathlib.Core.Bool.{true}
 use mathlib.Core.List.{List, [], _∷_}
 use native.Mathlib.Omega.{arith}
 use lib.ListN.{length}
-use Rattle.model.specs.Problem.{worst, Action, Node, terminal, decision, Problem, Cell, states, nodeAt, actionAt, cellOf, valueOf, solved}
+use Rattle.model.specs.Problem.{worst, Action, Form, Node, terminal, decision, Problem, Cell, states, nodeAt, actionAt, cellOf, valueOf, solved}
 use Rattle.model.specs.Problem.{_∈_, here, there}
 use Rattle.model.specs.Limits.{ceiling, noPlan}
 use Rattle.model.specs.QValue.{Dearest}
@@ -26,7 +26,7 @@ run-only (goes e r) (goes e′ r′) = let (same, costs) = run-only r r′ in (c
 
 module _ (p : Problem) (cells : List Cell) (wf : WellFormed p) (con : Consistent p cells) where
   -- what a decision's line names is the dearest successor of its chosen action
-  pub names-dearest : (s : ℕ) (acts : List Action) → nodeAt p s ≡ decision acts → cellOf cells s .chosen < length acts →
+  pub names-dearest : (s : ℕ) {form : Form} (acts : List Action) → nodeAt p s ≡ decision form acts → cellOf cells s .chosen < length acts →
       Dearest (valueOf cells) (actionAt acts (cellOf cells s .chosen) .successors) (dearestChosen p cells s)
   names-dearest s acts e exists = rw e (action-dearest p wf s (cellOf cells s .chosen) acts e exists (valueOf cells))
 
@@ -43,7 +43,7 @@ module _ (p : Problem) (cells : List Cell) (wf : WellFormed p) (con : Consistent
       is t (there m) = absurd (elim m [ ])
 
   -- at a decision it goes on to the dearest successor
-  goes-on : (s : ℕ) (acts : List Action) → nodeAt p s ≡ decision acts →
+  goes-on : (s : ℕ) {form : Form} (acts : List Action) → nodeAt p s ≡ decision form acts →
       dearestChosen p cells s ∈ actionAt acts (cellOf cells s .chosen) .successors →
       valueOf cells s ≡ actionAt acts (cellOf cells s .chosen) .cost + valueOf cells (dearestChosen p cells s) →
       RunsOn (dearestChosen p cells s) → RunsOn s
@@ -64,8 +64,8 @@ module _ (p : Problem) (cells : List Cell) (wf : WellFormed p) (con : Consistent
           valueOf cells s < ceiling →
           (n : Node) → nodeAt p s ≡ n → RunsOn s
       go s above sol small (terminal cost) e = stays s cost e (con .sound s .at-end cost (rw e) sol)
-      go s above sol small (decision []) e = absurd (omega (arith, con .sound s .at-end noPlan (rw e) sol))
-      go s above sol small (decision (a ∷ more)) e =
+      go s above sol small (decision form []) e = absurd (omega (arith, con .sound s .at-end noPlan (rw e) sol))
+      go s above sol small (decision form (a ∷ more)) e =
           let acts : List Action = a ∷ more in
           let settles = con .sound s .settles acts e (omega arith) sol in
           let d = names-dearest s acts e (settles .exists) in

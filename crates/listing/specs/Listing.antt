@@ -9,7 +9,7 @@ use Rattle.model.specs.declared.Outcome.{Outcome}
 use Rattle.model.specs.declared.Outcome.the-variants.{Refused, Settled, Over, Stopped, None}
 use Rattle.model.specs.declared.Answer.{Answer}
 use Rattle.model.specs.Tests.{fork, also}
-use Rattle.model.specs.Problem.{Action, Node, terminal, decision, Problem, Cell, states, nodeAt, actionAt, cellOf, valueOf, _∈_}
+use Rattle.model.specs.Problem.{Action, Form, Node, terminal, decision, Problem, Cell, states, nodeAt, actionAt, cellOf, valueOf, _∈_}
 use Rattle.model.specs.Read.{problemOf, cellsOf}
 use Rattle.model.specs.Limits.{maxStates}
 use Rattle.model.specs.QValue.{dearest}
@@ -40,7 +40,7 @@ lineOne a = lineOf (a .outcome) a
 -- the findings of the check that is chosen at a stage; an ending has none
 abbrev pub chosenSuccessorsOf : Node → Cell → List ℕ
 chosenSuccessorsOf (terminal cost) c = []
-chosenSuccessorsOf (decision acts) c = actionAt acts (c .chosen) .successors
+chosenSuccessorsOf (decision form acts) c = actionAt acts (c .chosen) .successors
 
 abbrev pub chosenSuccessors : Problem → List Cell → ℕ → List ℕ
 chosenSuccessors p cells s = chosenSuccessorsOf (nodeAt p s) (cellOf cells s)
@@ -52,11 +52,11 @@ dearestChosen p cells s = dearest (valueOf cells) (chosenSuccessors p cells s)
 -- S10.3, a stage's line: number, chosen check or `end`, value; then, at a junction, `by` and the dearest finding
 abbrev pub choiceOf : Node → Cell → List ℕ
 choiceOf (terminal cost) c = ascii " end"
-choiceOf (decision acts) c = field (ascii " check ") (c .chosen)
+choiceOf (decision form acts) c = field (ascii " check ") (c .chosen)
 
 abbrev pub lineEnd : Node → ℕ → List ℕ
 lineEnd (terminal cost) t = ascii "\n"
-lineEnd (decision acts) t = field (ascii " by ") t ++ ascii "\n"
+lineEnd (decision form acts) t = field (ascii " by ") t ++ ascii "\n"
 
 abbrev pub stateLine : Problem → List Cell → ℕ → List ℕ
 stateLine p cells s =
@@ -109,7 +109,7 @@ planOf None s = []
 -- and what the checks on it and that ending cost together
 pub data Run (p : Problem) (cells : List Cell) : ℕ → List ℕ → ℕ → Type 0 where
   ends : {s cost : ℕ} → nodeAt p s ≡ terminal cost → Run p cells s (s ∷ []) cost
-  goes : {s c : ℕ} {acts : List Action} {on : List ℕ} → nodeAt p s ≡ decision acts →
+  goes : {s c : ℕ} {form : Form} {acts : List Action} {on : List ℕ} → nodeAt p s ≡ decision form acts →
       Run p cells (dearestChosen p cells s) on c →
       Run p cells s (s ∷ on) (actionAt acts (cellOf cells s .chosen) .cost + c)
 

@@ -4,7 +4,7 @@ use mathlib.Core.Path.{_≡_}
 use mathlib.Core.Bool.{Bool, true}
 use mathlib.Core.List.{List, [], _∷_}
 use lib.ListN.{length, set}
-use Rattle.model.specs.Problem.{Action, decision, Problem, Cell, nodeAt, cellOf}
+use Rattle.model.specs.Problem.{Action, Form, decision, Problem, Cell, nodeAt, cellOf}
 use Rattle.model.specs.Read.{problemOf, cellsOf}
 use Rattle.model.specs.Policy.{Closed, written}
 use Rattle.layout.specs.Placed.{placed}
@@ -26,7 +26,7 @@ pub record Listable (s t : List ℕ) : Type 0 where
 
 -- where stage i is a junction, its chosen check is one of its checks
 abbrev pub Chooses : Problem → List Cell → ℕ → Type 0
-Chooses p cells i = (acts : List Action) → nodeAt p i ≡ decision acts → cellOf cells i .chosen < length acts
+Chooses p cells i = (form : Form) (acts : List Action) → nodeAt p i ≡ decision form acts → cellOf cells i .chosen < length acts
 
 -- flags with some more of them up
 unfoldable pub flagged : List Bool → List ℕ → List Bool

@@ -2,17 +2,19 @@
 -- unfolds all that a call's answer, bytes and table need at a literal sheet.
 use Rattle.model.specs.Tests.{also, all, every}
 use Rattle.model.specs.Limits.{ceiling}
-use Rattle.model.specs.Format.{be16, be32, successorsBytes, actionsBytes, nodeBytes, nodesBytes, kindByte, write, actionsSize}
-use Rattle.model.specs.Format.{nodeSize, offsetsFrom}
-use Rattle.model.specs.Read.{actionFits, successorsRead, actionRead, actionsGood, actionsRead, actionsLong, terminalFits}
-use Rattle.model.specs.Read.{headerFits, decisionFits, nodesGood, nodesRead, cellsRead, kindOf, problemOf, cellsOf}
+use Rattle.model.specs.Format.{be16, be32, decisionTag, decisionLength, successorsBytes, actionsBytes, formBytes, nodeBytes}
+use Rattle.model.specs.Format.{nodesBytes, kindByte, write, actionsSize, nodeSize, offsetsFrom}
+use Rattle.model.specs.Read.{actionFits, successorsRead, actionRead, actionsGood, actionsRead, actionsLong, fieldFits}
+use Rattle.model.specs.Read.{formRead, headerFits, decisionFits, nodesGood, nodesRead, cellsRead, kindOf, problemOf, cellsOf}
 use Rattle.model.specs.Cost.{amount, costOf, both}
 use Rattle.model.specs.QValue.{join, joined, dearestFrom, dearest, leastFrom}
-use Rattle.model.specs.Questions.{question1, question2, question3, question4, costsInRange, chosenInRange, cellInRange, question5}
+use Rattle.model.specs.Questions.{question1, question2, question3, question4, countIs, countRight, question10}
+use Rattle.model.specs.Questions.{costsInRange, chosenInRange, cellInRange, question5}
 use Rattle.model.specs.Questions.{apart, ascending, successorsInOrder, question6}
 use Rattle.model.specs.Questions.{valueUnder, question7, allSolved, passedBy, markEarned, question8, question9, firstNo}
 use Rattle.model.specs.Questions.{sheetRefusalUnder, refusalUnder, acceptedUnder}
 use Rattle.model.specs.Earlier.{instead, strictRefusal, strictlyAccepted, joinedValues, hasCheck, checkedRefusal, checkedAccepted}
+use Rattle.model.specs.Earlier.{isPlain, plainRefusal}
 use Rattle.model.specs.Ldfs.{onTest, onVisit, update, finish, ifDearBy, visitAllBy, tryOneBy, tryAllBy, visitOpenBy, visitBy}
 use Rattle.model.specs.Ldfs.{onPass, passesBy, workBy}
 use Rattle.model.specs.Report.{outcomeAt, outcomeOf, onRefusal, answerUnder, report, bytesUnder, indexTable, refusedTable}
@@ -20,17 +22,17 @@ use Rattle.model.specs.Report.{checkedTable, tableUnder}
 
 -- fields written, and their offsets
 unfoldable computingBytes : Unit {0}
-unfolding be16 be32 successorsBytes actionsBytes nodeBytes nodesBytes kindByte write actionsSize nodeSize offsetsFrom
+unfolding be16 be32 decisionTag decisionLength successorsBytes actionsBytes formBytes nodeBytes nodesBytes kindByte write actionsSize nodeSize offsetsFrom
 computingBytes = tt
 
 -- are fields in place?
 unfoldable computingGood : Unit {0}
-unfolding actionFits actionsGood actionsLong terminalFits headerFits decisionFits nodesGood
+unfolding actionFits actionsGood actionsLong fieldFits headerFits decisionFits nodesGood
 computingGood = tt
 
 -- what they say
 unfoldable computingRead : Unit {0}
-unfolding successorsRead actionRead actionsRead nodesRead cellsRead kindOf problemOf cellsOf
+unfolding successorsRead actionRead actionsRead formRead nodesRead cellsRead kindOf problemOf cellsOf
 computingRead = tt
 
 -- limits, tests and prices
@@ -38,9 +40,9 @@ unfoldable computingPrices : Unit {0}
 unfolding also all every ceiling amount costOf both join joined dearestFrom dearest leastFrom
 computingPrices = tt
 
--- questions 1 to 5
+-- questions 1 to 4, 10 and 5
 unfoldable computingRanges : Unit {0}
-unfolding question1 question2 question3 question4 costsInRange chosenInRange cellInRange question5
+unfolding question1 question2 question3 question4 countIs countRight question10 costsInRange chosenInRange cellInRange question5
 computingRanges = tt
 
 -- question 6, as it is and as it was
@@ -48,9 +50,9 @@ unfoldable computingOrder : Unit {0}
 unfolding apart ascending successorsInOrder question6 instead strictRefusal strictlyAccepted
 computingOrder = tt
 
--- what was asked when every junction had to have a check
+-- what was asked when every junction had to have a check, and when every junction was plain
 unfoldable computingThen : Unit {0}
-unfolding joinedValues hasCheck checkedRefusal checkedAccepted
+unfolding joinedValues hasCheck checkedRefusal checkedAccepted isPlain plainRefusal
 computingThen = tt
 
 -- questions 7 to 9, and refusals

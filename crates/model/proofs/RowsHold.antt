@@ -12,7 +12,7 @@ use Rattle.model.specs.Tests.{also}
 use Rattle.model.specs.Limits.{maxStates}
 use Rattle.model.specs.Questions.{refusal}
 use Rattle.model.specs.Report.{largest, report, tableAfter}
-use Rattle.model.specs.Rows.{Expected, answers, accepts, Row, Says, Holds, sheetA, rows, rowAt}
+use Rattle.model.specs.Rows.{Expected, answers, accepts, Row, Says, Holds, sheetA, sheetJ, rows, rowAt}
 use Rattle.model.proofs.Computing.{computing}
 use Rattle.model.proofs.TestLaws.{never, also-true}
 
@@ -70,3 +70,12 @@ pub offsets-A : (t : List ℕ) → maxStates ≤ length t →
     tableAfter sheetA t largest ≡ 8 ∷ 37 ∷ 57 ∷ 69 ∷ replicate (length t - 4) 0
 unfolding computing
 offsets-A t h = rw (le-leb maxStates (length t) h)
+
+-- S11: sheet J has 82 bytes and offsets 8, 38, 58, 70
+pub length-J : length (sheetJ 2) ≡ 82
+length-J = refl
+
+pub offsets-J : (t : List ℕ) → maxStates ≤ length t →
+    tableAfter (sheetJ 2) t largest ≡ 8 ∷ 38 ∷ 58 ∷ 70 ∷ replicate (length t - 4) 0
+unfolding computing
+offsets-J t h = rw (le-leb maxStates (length t) h)

@@ -53,6 +53,20 @@ unfolding every
 true-every zero f h = refl
 true-every (suc n) f h = true-also (every n f) (λ _. f n) (true-every n f (λ i l. h i (omega arith))) (h n (omega arith))
 
+-- every number below n + 1: 0 first, then those above it
+pub every-first : (n : ℕ) (f : ℕ → Bool) → every (suc n) f ≡ also (f 0) (λ _. every n (λ i. f (suc i)))
+unfolding every also
+every-first zero f = go (f 0)
+  where
+    go : (b : Bool) → b ≡ also b (λ _. true)
+    go true = refl
+    go false = refl
+every-first (suc n) f = rw (every-first n f) (go (f 0) (every n (λ i. f (suc i))) (f (suc n)))
+  where
+    go : (a b c : Bool) → also (also a (λ _. b)) (λ _. c) ≡ also a (λ _. also b (λ _. c))
+    go true b c = refl
+    go false b c = refl
+
 pub every-false : (n : ℕ) (f : ℕ → Bool) (i : ℕ) → i < n → f i ≡ false → every n f ≡ false
 every-false n f i lt h = go (every n f) refl
   where

@@ -6,16 +6,16 @@ use mathlib.Core.Bool.{true, false}
 use mathlib.Core.Option.{none, some}
 use mathlib.Core.Logic.{_⊎_}
 use mathlib.Core.List.{List, _∷_, _++_}
-use lib.ListN.{length, replicate}
-use Rattle.model.specs.Problem.{Problem, Cell, cellOf, valueOf, solved}
-use Rattle.model.specs.Format.{Bytes}
+use lib.ListN.{length, take, drop, replicate}
+use Rattle.model.specs.Problem.{Action, counted, decision, Problem, Cell, nodeAt, actionAt, cellOf, valueOf, solved}
+use Rattle.model.specs.Format.{Bytes, actionSize, actionsOf, actionOffset}
 use Rattle.model.specs.Read.{problemOf, cellsOf}
-use Rattle.model.specs.Limits.{ceiling, noPlan}
+use Rattle.model.specs.Limits.{maxStates, ceiling, noPlan}
 use Rattle.model.specs.Cost.{Cost, amount, _⊑_}
-use Rattle.model.specs.Questions.{questions, answerAt, First, accepted, acceptedUnder}
+use Rattle.model.specs.Questions.{questions, answerAt, First, accepted, acceptedUnder, refusal}
 use Rattle.model.specs.Optimal.{optimal, gaps}
 use Rattle.model.specs.Policy.{Policy, Closed, policyCost, written}
-use Rattle.model.specs.Earlier.{strictRefusal, checkedRefusal, checkedAccepted, answerThen, bytesThen}
+use Rattle.model.specs.Earlier.{strictRefusal, checkedRefusal, checkedAccepted, answerThen, bytesThen, plainRefusal, Uncounted}
 use Rattle.model.specs.Report.{answerGiven, bytesGiven, answerUnder, bytesUnder, tableGiven, tableUnder}
 use Rattle.model.specs.Calls.{Call, left, raisesIn}
 
@@ -168,3 +168,27 @@ pub record Withdrawn (limit : ℕ) (s : List ℕ) : Type 0 where
       tableUnder limit s t budget ≡ tableGiven (checkedRefusal limit s (length t) budget) s t
   -- and what it leaves is again such a sheet
   pub again : (entries budget : ℕ) → checkedAccepted limit (bytesUnder limit s entries budget) ≡ true
+
+-- S8.17, of bytes s without a counted junction, under a limit of stages: what they keep from when every junction was plain. Each call, with
+-- any table and any budget, refused or not, is as the refusal of that time would have it.
+pub record FormAdded (limit : ℕ) (s : List ℕ) : Type 0 where
+  pub same-answer : (entries budget : ℕ) →
+      answerUnder limit s entries budget ≡ answerGiven (plainRefusal limit s entries budget) s budget
+  pub same-bytes : (entries budget : ℕ) →
+      bytesUnder limit s entries budget ≡ bytesGiven (plainRefusal limit s entries budget) s budget
+  pub same-table : (t : List ℕ) (budget : ℕ) →
+      tableUnder limit s t budget ≡ tableGiven (plainRefusal limit s (length t) budget) s t
+  -- and what it leaves is again such bytes
+  pub again : (entries budget : ℕ) → Uncounted (bytesUnder limit s entries budget)
+
+-- S8.18: the bytes of the sheet s without the field of check i of junction t
+abbrev pub withoutCheck : List ℕ → ℕ → ℕ → List ℕ
+withoutCheck s t i =
+    let from = actionOffset (problemOf s) t i in
+    take from s ++ drop (from + actionSize (actionAt (actionsOf (nodeAt (problemOf s) t)) i)) s
+
+-- of an accepted sheet s: wherever a counted junction loses a check, what is left is refused 10
+abbrev pub LossRefused : List ℕ → Type 0
+LossRefused s =
+    (t i n : ℕ) (acts : List Action) → nodeAt (problemOf s) t ≡ decision (counted n) acts → i < length acts →
+    (entries budget : ℕ) → maxStates ≤ entries → refusal (withoutCheck s t i) entries budget ≡ 10

@@ -1,13 +1,14 @@
 -- Calls as they were before a change, under any limit of stages: other questions stand in the places of today's, all others are what they
 -- are.
 use Prim.Native.Nat.{ℕ, _+_}
-use mathlib.Core.Bool.{Bool, true}
+use mathlib.Core.Path.{_≡_}
+use mathlib.Core.Bool.{Bool, true, false}
 use mathlib.Core.List.{List, [], _∷_}
 use lib.Dec.{eqb, leb}
 use lib.ListN.{length}
 use Rattle.model.specs.declared.Answer.{Answer}
 use Rattle.model.specs.Tests.{fork, also, all}
-use Rattle.model.specs.Problem.{Kind, Node, terminal, decision, valueOf}
+use Rattle.model.specs.Problem.{Kind, plain, counted, Node, terminal, decision, Problem, valueOf}
 use Rattle.model.specs.Limits.{maxBytes, ceiling}
 use Rattle.model.specs.Format.{write}
 use Rattle.model.specs.Read.{problemOf, cellsOf}
@@ -52,7 +53,7 @@ sizeThen s = question 2 (λ _. all (leb 20 (length s) ∷ leb (length s) maxByte
 
 unfoldable pub hasCheck : Node → Bool
 hasCheck (terminal cost) = true
-hasCheck (decision acts) = leb 1 (length acts)
+hasCheck (decision form acts) = leb 1 (length acts)
 
 abbrev pub fieldsThen : List ℕ → Question
 fieldsThen s = question 4 (λ _. also (question4 s) (λ _. everyState (problemOf s) (λ t n. hasCheck n)))
@@ -85,6 +86,38 @@ abbrev pub bytesThen : ℕ → List ℕ → ℕ → ℕ → List ℕ
 bytesThen limit s entries budget =
     onRefusal (checkedRefusal limit s entries budget) (λ _. write (problemOf s) (cellsAfter (workThen s budget))) (λ _. s)
 
--- S8.12, S8.13, S8.16 together: a sheet that the first version accepted, with 1,024 stages at the most
+-- S8.17: calls as they were when question 4 knew plain junctions only, and question 10 was not put.
+unfoldable pub isPlain : Node → Bool
+isPlain (terminal cost) = true
+isPlain (decision plain acts) = true
+isPlain (decision (counted n) acts) = false
+
+-- no junction is counted
+abbrev pub allPlain : Problem → Bool
+allPlain p = everyState p (λ t n. isPlain n)
+
+-- question 4 of that time; and a question that was not put, which is as one that is always answered yes
+abbrev pub plainFields : List ℕ → Question
+plainFields s = question 4 (λ _. also (question4 s) (λ _. allPlain (problemOf s)))
+
+abbrev pub notPut : ℕ → Question
+notPut n = question n (λ _. true)
+
+-- the refusal of a call of that time, 0 where there is none
+unfoldable pub plainRefusal : ℕ → List ℕ → ℕ → ℕ → ℕ
+plainRefusal limit s entries budget = firstNo (instead (plainFields s) (instead (notPut 10) (questionsUnder limit s entries budget)))
+
+-- bytes that are treated as they were then: out of place for question 4, or in place with no counted junction among them
+abbrev pub Uncounted : List ℕ → Type 0
+Uncounted s = question4 s ≡ true → allPlain (problemOf s) ≡ true
+
+-- S8.12, S8.13, S8.16, S8.17 together: a sheet that the first version accepted, with 1,024 stages at the most
+abbrev pub firstFields : List ℕ → Question
+firstFields s = question 4 (λ _. also (fieldsThen s .answer tt) (λ _. allPlain (problemOf s)))
+
+abbrev pub firstQuestions : List ℕ → List Question
+firstQuestions s =
+    instead (firstFields s) (instead (notPut 10) (instead (strictOrder s) (checkedThen s (sheetQuestionsUnder 1024 s))))
+
 unfoldable pub firstAccepted : List ℕ → Bool
-firstAccepted s = eqb (firstNo (instead (strictOrder s) (checkedThen s (sheetQuestionsUnder 1024 s)))) 0
+firstAccepted s = eqb (firstNo (firstQuestions s)) 0

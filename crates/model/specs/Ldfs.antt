@@ -97,8 +97,8 @@ module _ (price : Pricing) (p : Problem) (budget : ℕ) where
   -- S6.3, S6.11: an open ending is finished at its cost, and an open junction without checks at none
   unfoldable pub visitOpenBy : (ℕ → Search → Visit) → ℕ → Node → Search → Visit
   visitOpenBy visit s (terminal cost) w = finish budget s cost w
-  visitOpenBy visit s (decision []) w = finish budget s noPlan w
-  visitOpenBy visit s (decision (a ∷ more)) w = tryAllBy visit s (a ∷ more) (length (a ∷ more)) 0 w
+  visitOpenBy visit s (decision form []) w = finish budget s noPlan w
+  visitOpenBy visit s (decision form (a ∷ more)) w = tryAllBy visit s (a ∷ more) (length (a ∷ more)) 0 w
 
   -- a visit to s, which succeeds where s is settled (S6.2); the first number bounds how deep visits go, and the number of stages is enough
   unfoldable pub visitBy : ℕ → ℕ → Search → Visit

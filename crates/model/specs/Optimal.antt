@@ -15,7 +15,7 @@ solution step (suc n) s = step s (solution step n)
 -- largest, or the sum, of v at its findings; none at a junction without checks
 unfoldable pub bellmanAt : Kind → (ℕ → Cost) → Node → Cost
 bellmanAt k v (terminal cost) = some cost
-bellmanAt k v (decision acts) = leastCost (qFull k v) acts
+bellmanAt k v (decision form acts) = leastCost (qFull k v) acts
 
 abbrev pub bellman : Problem → ℕ → (ℕ → Cost) → Cost
 bellman p s v = bellmanAt (p .kind) v (nodeAt p s)
@@ -27,7 +27,7 @@ optimal p = solution (bellman p) (states p)
 -- the right side of the equation as it is written: the same of values, cut to the ceiling or none, which is the price of a check
 unfoldable pub bellmanCutAt : Kind → (ℕ → ℕ) → Node → ℕ
 bellmanCutAt k v (terminal cost) = cut cost
-bellmanCutAt k v (decision acts) = least (q k v) acts
+bellmanCutAt k v (decision form acts) = least (q k v) acts
 
 abbrev pub bellmanCut : Problem → ℕ → (ℕ → ℕ) → ℕ
 bellmanCut p s v = bellmanCutAt (p .kind) v (nodeAt p s)

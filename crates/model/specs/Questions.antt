@@ -6,7 +6,7 @@ use mathlib.Core.List.{List, [], _∷_, _++_}
 use lib.ListN.{length, getD, drop}
 use lib.Dec.{eqb, leb, ltb}
 use Rattle.model.specs.Tests.{fork, also, all, every}
-use Rattle.model.specs.Problem.{Kind, worst, whole, Action, Node, terminal, decision, Problem, Cell}
+use Rattle.model.specs.Problem.{Kind, worst, whole, Action, Form, plain, counted, Node, terminal, decision, Problem, Cell}
 use Rattle.model.specs.Problem.{states, nodeAt, actionAt, cellOf, valueOf, solved}
 use Rattle.model.specs.Limits.{maxStates, minBytes, maxBytes, maxCost, noPlan}
 use Rattle.model.specs.Format.{be16, headTag, headLength, kindIn, statesIn, startIn, headSize}
@@ -43,16 +43,28 @@ question3 limit s =
 unfoldable pub question4 : List ℕ → Bool
 question4 s = nodesGood (be16 s statesIn) (drop headSize s)
 
+-- S4.10, count: is the number that a counted junction writes the number of its checks?
+unfoldable pub countIs : Form → ℕ → Bool
+countIs plain n = true
+countIs (counted m) n = eqb m n
+
+unfoldable pub countRight : Node → Bool
+countRight (terminal cost) = true
+countRight (decision form acts) = countIs form (length acts)
+
+unfoldable pub question10 : Problem → Bool
+question10 p = everyState p (λ s n. countRight n)
+
 -- S4.5, ranges: are check costs 1 to 1,000,000, ending costs 0 to 1,000,000, values 0 to 1,000,000,001, marks 0 or 1, chosen checks 0
 -- at open junctions and at those without checks, and below the junction's number of checks at settled ones that have some?
 unfoldable pub costsInRange : Node → Bool
 costsInRange (terminal cost) = leb cost maxCost
-costsInRange (decision acts) = everyAction acts (λ a. all (leb 1 (a .cost) ∷ leb (a .cost) maxCost ∷ []))
+costsInRange (decision form acts) = everyAction acts (λ a. all (leb 1 (a .cost) ∷ leb (a .cost) maxCost ∷ []))
 
 unfoldable pub chosenInRange : Node → Cell → Bool
 chosenInRange (terminal cost) c = true
-chosenInRange (decision []) c = eqb (c .chosen) 0
-chosenInRange (decision (a ∷ more)) c = fork (solved c) (λ _. ltb (c .chosen) (length (a ∷ more))) (λ _. eqb (c .chosen) 0)
+chosenInRange (decision form []) c = eqb (c .chosen) 0
+chosenInRange (decision form (a ∷ more)) c = fork (solved c) (λ _. ltb (c .chosen) (length (a ∷ more))) (λ _. eqb (c .chosen) 0)
 
 unfoldable pub cellInRange : Node → Cell → Bool
 cellInRange n c = all (leb (c .value) noPlan ∷ leb (c .mark) 1 ∷ chosenInRange n c ∷ [])
@@ -74,7 +86,7 @@ ascending d low n (t ∷ ts) = also (all (leb low t ∷ ltb t n ∷ [])) (λ _. 
 
 unfoldable pub successorsInOrder : ℕ → ℕ → ℕ → Node → Bool
 successorsInOrder d n s (terminal cost) = true
-successorsInOrder d n s (decision acts) = everyAction acts (λ a. ascending d (s + 1) n (a .successors))
+successorsInOrder d n s (decision form acts) = everyAction acts (λ a. ascending d (s + 1) n (a .successors))
 
 -- the findings of every check in order, each d or more above the one before it
 abbrev pub inOrder : ℕ → Problem → Bool
@@ -86,7 +98,7 @@ question6 p = inOrder (apart (p .kind)) p
 -- S4.7, values: is each ending's value at most its cost, and each junction's value at most the price of each of its checks?
 unfoldable pub valueUnder : Problem → List Cell → ℕ → Node → Bool
 valueUnder p cells s (terminal cost) = leb (valueOf cells s) cost
-valueUnder p cells s (decision acts) = everyAction acts (λ a. leb (valueOf cells s) (q (p .kind) (valueOf cells) a))
+valueUnder p cells s (decision form acts) = everyAction acts (λ a. leb (valueOf cells s) (q (p .kind) (valueOf cells) a))
 
 unfoldable pub question7 : Problem → List Cell → Bool
 question7 p cells = everyState p (valueUnder p cells)
@@ -102,8 +114,8 @@ passedBy p cells s a = all (eqb (valueOf cells s) (q (p .kind) (valueOf cells) a
 
 unfoldable pub markEarned : Problem → List Cell → ℕ → Node → Bool
 markEarned p cells s (terminal cost) = eqb (valueOf cells s) cost
-markEarned p cells s (decision []) = eqb (valueOf cells s) noPlan
-markEarned p cells s (decision (a ∷ more)) = passedBy p cells s (actionAt (a ∷ more) (cellOf cells s .chosen))
+markEarned p cells s (decision form []) = eqb (valueOf cells s) noPlan
+markEarned p cells s (decision form (a ∷ more)) = passedBy p cells s (actionAt (a ∷ more) (cellOf cells s .chosen))
 
 unfoldable pub question8 : Problem → List Cell → Bool
 question8 p cells = everyState p (λ s n. fork (solved (cellOf cells s)) (λ _. markEarned p cells s n) (λ _. true))
@@ -129,19 +141,20 @@ stateQuestions p cells =
     ∷ question 8 (λ _. question8 p cells)
     ∷ []
 
--- questions 2 to 8, which are about the sheet alone, under a limit of stages
+-- questions 2 to 4, 10 and 5 to 8, which are about the sheet alone, in the order in which they are put, under a limit of stages
 abbrev pub sheetQuestionsUnder : ℕ → List ℕ → List Question
 sheetQuestionsUnder limit s =
     question 2 (λ _. question2 s)
     ∷ question 3 (λ _. question3 limit s)
     ∷ question 4 (λ _. question4 s)
+    ∷ question 10 (λ _. question10 (problemOf s))
     ∷ stateQuestions (problemOf s) (cellsOf s)
 
--- questions 1 to 8, of a sheet with a table of so many entries
+-- question 1 and these, of a sheet with a table of so many entries
 abbrev pub checkQuestionsUnder : ℕ → List ℕ → ℕ → List Question
 checkQuestionsUnder limit s entries = question 1 (λ _. question1 limit entries) ∷ sheetQuestionsUnder limit s
 
--- the nine questions of a call with a budget, in the order in which they are put
+-- the ten questions of a call with a budget, in the order in which they are put
 abbrev pub questionsUnder : ℕ → List ℕ → ℕ → ℕ → List Question
 questionsUnder limit s entries budget = checkQuestionsUnder limit s entries ++ (question 9 (λ _. question9 budget) ∷ [])
 
@@ -160,7 +173,8 @@ unfoldable pub firstNo : List Question → ℕ
 firstNo [] = 0
 firstNo (asked ∷ more) = fork (asked .answer tt) (λ _. firstNo more) (λ _. asked .number)
 
--- under a limit of stages, the refusal of a sheet with a table of so many entries, by questions 1 to 8; 0 where there is none
+-- under a limit of stages, the refusal of a sheet with a table of so many entries, by all questions but the last, on the budget; 0 where
+-- there is none
 unfoldable pub sheetRefusalUnder : ℕ → List ℕ → ℕ → ℕ
 sheetRefusalUnder limit s entries = firstNo (checkQuestionsUnder limit s entries)
 

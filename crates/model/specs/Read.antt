@@ -7,11 +7,12 @@ use mathlib.Core.List.{List, [], _∷_}
 use lib.ListN.{length, getD, drop}
 use lib.Dec.{eqb, leb}
 use Rattle.model.specs.Tests.{fork, also, all}
-use Rattle.model.specs.Problem.{Kind, worst, whole, Action, action, Node, terminal, decision, Problem, problem, Cell, cell}
+use Rattle.model.specs.Problem.{Kind, worst, whole, Action, action, Form, plain, counted, Node, terminal, decision}
+use Rattle.model.specs.Problem.{Problem, problem, Cell, cell}
 use Rattle.model.specs.Limits.{maxActions}
-use Rattle.model.specs.Format.{be16, be32, terminalTag, decisionTag, actionTag, terminalLength, decisionLength}
+use Rattle.model.specs.Format.{be16, be32, terminalTag, countedTag, decisionTag, actionTag, terminalLength, decisionLength}
 use Rattle.model.specs.Format.{minActionLength, maxActionLength}
-use Rattle.model.specs.Format.{lengthIn, contentIn, kindIn, statesIn, startIn, terminalCostIn, terminalValueIn, decisionValueIn}
+use Rattle.model.specs.Format.{lengthIn, contentIn, kindIn, statesIn, startIn, terminalCostIn, terminalValueIn, decisionValueIn, countIn}
 use Rattle.model.specs.Format.{actionCostIn, successorsIn, costBytes, successorBytes, markBehind, chosenBehind}
 use Rattle.model.specs.Format.{headSize, terminalSize, decisionSize}
 
@@ -59,29 +60,37 @@ actionsLong (suc most) r = fork (eqb (tag r) actionTag) (λ _. fieldSize r + act
 abbrev pub pastActions : ℕ → List ℕ → List ℕ
 pastActions most r = drop (actionsLong most r) r
 
--- an ending's field, its tag read already
-unfoldable pub terminalFits : List ℕ → Bool
-terminalFits r = all (eqb (contentLength r) terminalLength ∷ leb terminalSize (length r) ∷ [])
+-- a field with a content of n bytes: is that its length, and is it all there
+unfoldable pub fieldFits : ℕ → List ℕ → Bool
+fieldFits n r = all (eqb (contentLength r) n ∷ leb (contentIn + n) (length r) ∷ [])
 
--- a junction's own field
+-- a junction's form: counted where its tag says so
+unfoldable pub formRead : List ℕ → Form
+formRead r = fork (eqb (tag r) countedTag) (λ _. counted (getD r countIn 0)) (λ _. plain)
+
+-- a junction's own field: the tag and the length of its form
 unfoldable pub headerFits : List ℕ → Bool
-headerFits r = all (eqb (tag r) decisionTag ∷ eqb (contentLength r) decisionLength ∷ leb decisionSize (length r) ∷ [])
+headerFits r = also (eqb (tag r) (decisionTag (formRead r))) (λ _. fieldFits (decisionLength (formRead r)) r)
+
+-- what follows it
+abbrev pub pastHeader : List ℕ → List ℕ
+pastHeader r = drop (decisionSize (formRead r)) r
 
 unfoldable pub decisionFits : List ℕ → Bool
-decisionFits r = also (headerFits r) (λ _. actionsGood maxActions (drop decisionSize r))
+decisionFits r = also (headerFits r) (λ _. actionsGood maxActions (pastHeader r))
 
 -- n stages: are they in place with nothing behind them; their nodes; their cells
 unfoldable pub nodesGood : ℕ → List ℕ → Bool
 nodesGood zero r = eqb (length r) 0
 nodesGood (suc n) r =
-    fork (eqb (tag r) terminalTag) (λ _. also (terminalFits r) (λ _. nodesGood n (drop terminalSize r)))
-    (λ _. also (decisionFits r) (λ _. nodesGood n (pastActions maxActions (drop decisionSize r))))
+    fork (eqb (tag r) terminalTag) (λ _. also (fieldFits terminalLength r) (λ _. nodesGood n (drop terminalSize r)))
+    (λ _. also (decisionFits r) (λ _. nodesGood n (pastActions maxActions (pastHeader r))))
 
 unfoldable pub nodesRead : ℕ → List ℕ → List Node
 nodesRead zero r = []
 nodesRead (suc n) r =
     fork (eqb (tag r) terminalTag) (λ _. terminal (be32 r terminalCostIn) ∷ nodesRead n (drop terminalSize r))
-    (λ _. decision (actionsRead maxActions (drop decisionSize r)) ∷ nodesRead n (pastActions maxActions (drop decisionSize r)))
+    (λ _. decision (formRead r) (actionsRead maxActions (pastHeader r)) ∷ nodesRead n (pastActions maxActions (pastHeader r)))
 
 abbrev pub terminalCell : List ℕ → Cell
 terminalCell r = cell (be32 r terminalValueIn) (getD r (terminalValueIn + markBehind) 0) 0
@@ -94,7 +103,7 @@ unfoldable pub cellsRead : ℕ → List ℕ → List Cell
 cellsRead zero r = []
 cellsRead (suc n) r =
     fork (eqb (tag r) terminalTag) (λ _. terminalCell r ∷ cellsRead n (drop terminalSize r))
-    (λ _. decisionCell r ∷ cellsRead n (pastActions maxActions (drop decisionSize r)))
+    (λ _. decisionCell r ∷ cellsRead n (pastActions maxActions (pastHeader r)))
 
 unfoldable pub kindOf : ℕ → Kind
 kindOf zero = worst

@@ -94,7 +94,7 @@ report s entries budget = numbers (answerTo s entries budget)
 unfoldable pub indexTable : Problem → ℕ → List ℕ
 indexTable p entries = offsetsFrom headSize (p .nodes) ++ replicate (entries - length (p .nodes)) 0
 
--- S5.4, S5.5: a refused call's table: number 1 leaves it unchanged, 2 to 9 leave every entry 0
+-- S5.4, S5.5: a refused call's table: number 1 leaves it unchanged, every later one leaves every entry 0
 unfoldable pub refusedTable : List ℕ → ℕ → List ℕ
 refusedTable t zero = t
 refusedTable t (suc zero) = t
@@ -104,7 +104,7 @@ refusedTable t (suc (suc n)) = replicate (length t) 0
 abbrev pub tableGiven : ℕ → List ℕ → List ℕ → List ℕ
 tableGiven n s t = onRefusal n (λ _. indexTable (problemOf s) (length t)) (refusedTable t)
 
--- the table's content once questions 1 to 8 have been put
+-- the table's content once every question but that on the budget has been put
 unfoldable pub checkedTable : List ℕ → List ℕ → List ℕ
 checkedTable s t = tableGiven (sheetRefusal s (length t)) s t
 

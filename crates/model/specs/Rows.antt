@@ -2,8 +2,8 @@
 use Prim.Native.Nat.{ℕ, zero, suc, _+_, _*_, _^_, min}
 use mathlib.Core.Path.{_≡_}
 use mathlib.Core.List.{List, [], _∷_, _++_}
-use lib.ListN.{length, getD, set, take, replicate}
-use Rattle.model.specs.Problem.{Kind, worst, whole, Action, action, Node, terminal, decision, problem, Cell, cell}
+use lib.ListN.{length, getD, set, take, drop, replicate}
+use Rattle.model.specs.Problem.{Kind, worst, whole, Action, action, plain, Node, terminal, decision, problem, Cell, cell}
 use Rattle.model.specs.Format.{bytes2, successorsBytes, write}
 use Rattle.model.specs.Limits.{maxStates, ceiling, noPlan}
 use Rattle.model.specs.Questions.{refusal}
@@ -89,12 +89,17 @@ upFrom : ℕ → ℕ → List ℕ
 upFrom s zero = []
 upFrom s (suc n) = s ∷ upFrom (suc s) n
 
--- a junction with n checks of cost 1, and the ending that they lead to
-abbrev manyChecks : ℕ → List ℕ
-manyChecks n =
-    1 ∷ 0 ∷ 5 ∷ 0 ∷ 0 ∷ 2 ∷ 0 ∷ 0
-    ∷ 3 ∷ 0 ∷ 6 ∷ 0 ∷ 0 ∷ 0 ∷ 0 ∷ 0 ∷ 0
-    ∷ repeat n (4 ∷ 0 ∷ 6 ∷ 0 ∷ 0 ∷ 0 ∷ 1 ∷ 0 ∷ 1 ∷ []) ++ ending 0
+-- the own field of a plain junction, and of a counted one with the number that it writes; of value 0, open
+abbrev plainField : List ℕ
+plainField = 3 ∷ 0 ∷ 6 ∷ 0 ∷ 0 ∷ 0 ∷ 0 ∷ 0 ∷ 0 ∷ []
+
+abbrev countedField : ℕ → List ℕ
+countedField number = 5 ∷ 0 ∷ 7 ∷ 0 ∷ 0 ∷ 0 ∷ 0 ∷ 0 ∷ 0 ∷ number ∷ []
+
+-- a junction with such a field and n checks of cost 1, and the ending that they lead to
+abbrev manyChecks : List ℕ → ℕ → List ℕ
+manyChecks field n =
+    (1 ∷ 0 ∷ 5 ∷ 0 ∷ 0 ∷ 2 ∷ 0 ∷ 0 ∷ []) ++ field ++ repeat n (4 ∷ 0 ∷ 6 ∷ 0 ∷ 0 ∷ 0 ∷ 1 ∷ 0 ∷ 1 ∷ []) ++ ending 0
 
 -- a sheet of a kind and so many stages: a junction with one check of a cost and some findings, and the endings behind it
 abbrev oneCheck : ℕ → ℕ → ℕ → List ℕ → List ℕ → List ℕ
@@ -116,7 +121,7 @@ abbrev abandoned : List ℕ
 abandoned =
     write
     (problem worst 0 (
-    decision (action 100 (1 ∷ 3 ∷ []) ∷ action 150 (2 ∷ []) ∷ []) ∷ decision (action 10 (4 ∷ []) ∷ [])
+    decision plain (action 100 (1 ∷ 3 ∷ []) ∷ action 150 (2 ∷ []) ∷ []) ∷ decision plain (action 10 (4 ∷ []) ∷ [])
     ∷ terminal 0 ∷ terminal 50 ∷ terminal 20 ∷ []
     ))
     (cell 150 0 0 ∷ cell 0 0 0 ∷ cell 0 0 0 ∷ cell 50 0 0 ∷ cell 0 0 0 ∷ [])
@@ -125,7 +130,7 @@ abandoned =
 -- behind it, as far as there are, so that the least cost of stage m + 10 - i is 1,000,000 · 2^i, cut.
 doubling : ℕ → ℕ → List Node
 doubling s zero = terminal 1000000 ∷ []
-doubling s (suc i) = decision (action 1000000 (upFrom (suc s) (min 16 (suc i))) ∷ []) ∷ doubling (suc s) i
+doubling s (suc i) = decision plain (action 1000000 (upFrom (suc s) (min 16 (suc i))) ∷ []) ∷ doubling (suc s) i
 
 doubled : ℕ → List Cell
 doubled zero = cell 1000000 1 0 ∷ []
@@ -133,33 +138,41 @@ doubled (suc i) = cell (min (1000000 * 2 ^ suc i) 1000000000) 1 0 ∷ doubled i
 
 abbrev atCeiling : ℕ → List ℕ
 atCeiling m =
-    write (problem whole 0 (decision (action 1 (upFrom 1 m) ∷ []) ∷ doubling 1 (9 + m)))
+    write (problem whole 0 (decision plain (action 1 (upFrom 1 m) ∷ []) ∷ doubling 1 (9 + m)))
     (cell 1000000000 1 0 ∷ doubled (9 + m))
 
 -- Sheet F with its junction's value, mark and chosen check.
 abbrev pub sheetF : ℕ → ℕ → ℕ → List ℕ
-sheetF value mark chosen = write (problem worst 0 (decision [] ∷ [])) (cell value mark chosen ∷ [])
+sheetF value mark chosen = write (problem worst 0 (decision plain [] ∷ [])) (cell value mark chosen ∷ [])
 
 -- Sheet G of a kind.
 abbrev pub sheetG : Kind → List ℕ
 sheetG k =
     write
-    (problem k 0 (decision (action 10 (1 ∷ []) ∷ action 100 (2 ∷ []) ∷ []) ∷ decision [] ∷ terminal 30 ∷ []))
+    (problem k 0 (decision plain (action 10 (1 ∷ []) ∷ action 100 (2 ∷ []) ∷ []) ∷ decision plain [] ∷ terminal 30 ∷ []))
     (cell 0 0 0 ∷ cell 0 0 0 ∷ cell 0 0 0 ∷ [])
 
 -- Sheet H.
 abbrev pub sheetH : List ℕ
 sheetH =
     write
-    (problem worst 0 (decision (action 10 (1 ∷ []) ∷ action 100 (1 ∷ []) ∷ []) ∷ decision [] ∷ []))
+    (problem worst 0 (decision plain (action 10 (1 ∷ []) ∷ action 100 (1 ∷ []) ∷ []) ∷ decision plain [] ∷ []))
     (cell 0 0 0 ∷ cell 0 0 0 ∷ [])
 
 -- Sheet I with these checks at junction 0.
 abbrev sheetI : List Action → List ℕ
 sheetI acts =
     write
-    (problem whole 0 (decision acts ∷ doubling 1 11 ++ (decision [] ∷ [])))
+    (problem whole 0 (decision plain acts ∷ doubling 1 11 ++ (decision plain [] ∷ [])))
     (cell ceiling 0 0 ∷ doubled 11 ++ (cell ceiling 0 0 ∷ []))
+
+-- Sheet J with the number that its junction writes.
+abbrev pub sheetJ : ℕ → List ℕ
+sheetJ number = take 8 sheetA ++ countedField number ++ drop 17 sheetA
+
+-- a sheet without so many bytes from an offset on
+abbrev without : ℕ → ℕ → List ℕ → List ℕ
+without from bytes s = take from s ++ drop (from + bytes) s
 
 -- one ending of cost 70, with its value
 abbrev endingAt : ℕ → List ℕ
@@ -213,8 +226,8 @@ rows =
     ∷ row sheetA 0 (refusedBy 9)
     -- S11.14, S11.15
     ∷ row (take 80 (set sheetA 23 0)) largest (refusedBy 4)
-    ∷ row (manyChecks 16) largest accepts
-    ∷ row (manyChecks 17) largest (refusedBy 4)
+    ∷ row (manyChecks plainField 16) largest accepts
+    ∷ row (manyChecks plainField 17) largest (refusedBy 4)
     ∷ row (manyFindings 16) largest accepts
     ∷ row (manyFindings 17) largest (refusedBy 4)
     -- S11.20, S11.21; the number of stages is 16 · 256 + 0 and 16 · 256 + 1
@@ -262,6 +275,32 @@ rows =
     ∷ row (carriedOn sheetH 2) largest (noneLeft 2 1)
     ∷ row (sheetI (action 1 (13 ∷ []) ∷ action 1 (1 ∷ 2 ∷ []) ∷ [])) largest (over 1000000000 1 1)
     ∷ row (sheetI (action 1 (1 ∷ 2 ∷ 13 ∷ []) ∷ [])) largest (noneLeft 2 2)
+    -- S11.42, S11.43
+    ∷ row (sheetJ 2) largest (settled 500 3 3)
+    ∷ row (take 38 (sheetJ 2) ++ countedField 1 ++ drop 47 (sheetJ 2)) largest (settled 500 3 3)
+    ∷ row (sheetJ 2) 2 (stopped 200 2 2)
+    ∷ row (carriedOn (sheetJ 2) 2) largest (settled 500 2 1)
+    -- S11.44 to S11.47
+    ∷ row (sheetJ 1) largest (refusedBy 10)
+    ∷ row (sheetJ 3) largest (refusedBy 10)
+    ∷ row (sheetJ 0) largest (refusedBy 10)
+    ∷ row (sheetJ 200) largest (refusedBy 10)
+    ∷ row (without 28 9 sheetA) largest (settled 700 4 6)
+    ∷ row (without 29 9 (sheetJ 2)) largest (refusedBy 10)
+    ∷ row (without 18 11 (sheetJ 2)) largest (refusedBy 10)
+    ∷ row ((1 ∷ 0 ∷ 5 ∷ 0 ∷ 0 ∷ 1 ∷ 0 ∷ 0 ∷ []) ++ countedField 0) largest (noneLeft 1 1)
+    ∷ row ((1 ∷ 0 ∷ 5 ∷ 0 ∷ 0 ∷ 1 ∷ 0 ∷ 0 ∷ []) ++ countedField 1) largest (refusedBy 10)
+    ∷ row (manyChecks (countedField 16) 16) largest accepts
+    ∷ row (manyChecks (countedField 17) 16) largest (refusedBy 10)
+    ∷ row (manyChecks (countedField 17) 17) largest (refusedBy 4)
+    -- S11.48 to S11.50; the last field is cut, check 0 costs 0, its first finding is junction 0, the budget is 0
+    ∷ row (take 81 (sheetJ 1)) largest (refusedBy 4)
+    ∷ row (set (sheetJ 1) 24 0) largest (refusedBy 10)
+    ∷ row (set (sheetJ 1) 26 0) largest (refusedBy 10)
+    ∷ row (sheetJ 1) 0 (refusedBy 10)
+    ∷ row (set (sheetJ 2) 8 3) largest (refusedBy 4)
+    ∷ row (set sheetA 8 5) largest (refusedBy 4)
+    ∷ row (take 37 sheetA ++ countedField 2 ++ drop 46 sheetA) largest (refusedBy 10)
     -- beside those of S11
     ∷ row (set sheetA 23 0) largest (refusedBy 5)
     ∷ row abandoned largest (settled 150 1 1)

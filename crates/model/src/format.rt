@@ -1,21 +1,25 @@
 // The numbers of the format (S3.2): tags, lengths of content, where things stand in a field, sizes of fields. `specs/Format.antt` has the
 // same numbers as definitions, and the proofs hold the two to each other.
 
-// Tags.
+// Tags; a junction's is that of its form, plain or counted.
 pub const HEAD_TAG: u8 = 1;
 
 pub const TERMINAL_TAG: u8 = 2;
 
-pub const DECISION_TAG: u8 = 3;
+pub const PLAIN_TAG: u8 = 3;
 
 pub const ACTION_TAG: u8 = 4;
+
+pub const COUNTED_TAG: u8 = 5;
 
 // Lengths of content.
 pub const HEAD_LENGTH: u32 = 5;
 
 pub const TERMINAL_LENGTH: usize = 9;
 
-pub const DECISION_LENGTH: usize = 6;
+pub const PLAIN_LENGTH: usize = 6;
+
+pub const COUNTED_LENGTH: usize = 7;
 
 pub const COST_BYTES: usize = 4;
 
@@ -25,8 +29,10 @@ pub const MIN_ACTION_LENGTH: usize = COST_BYTES + SUCCESSOR_BYTES;
 
 pub const MAX_ACTION_LENGTH: usize = COST_BYTES + SUCCESSOR_BYTES * super::MAX_SUCCESSORS;
 
-// Where a field's length and its content stand in it, and what the content has.
+// Where a field's length, that length's second byte and its content stand in it, and what the content has.
 pub const LENGTH_IN: usize = 1;
+
+pub const LOW_LENGTH_IN: usize = 2;
 
 pub const CONTENT_IN: usize = 3;
 
@@ -42,6 +48,8 @@ pub const TERMINAL_VALUE_IN: usize = 7;
 
 pub const DECISION_VALUE_IN: usize = 3;
 
+pub const COUNT_IN: usize = 9;
+
 pub const ACTION_COST_IN: usize = 3;
 
 pub const SUCCESSORS_IN: usize = CONTENT_IN + COST_BYTES;
@@ -56,7 +64,9 @@ pub const HEAD_SIZE: usize = 8;
 
 pub const TERMINAL_SIZE: usize = CONTENT_IN + TERMINAL_LENGTH;
 
-pub const DECISION_SIZE: usize = CONTENT_IN + DECISION_LENGTH;
+pub const PLAIN_SIZE: usize = CONTENT_IN + PLAIN_LENGTH;
+
+pub const COUNTED_SIZE: usize = CONTENT_IN + COUNTED_LENGTH;
 
 // The bytes of the two kinds, and of a settled stage's mark.
 pub const WORST: u8 = 0;

@@ -26,7 +26,7 @@ pub const LONG_CEILING: u64 = CEILING as u64;
 // The largest value, which is written for none: there is no complete plan (S2.11).
 pub const NO_PLAN: u32 = CEILING + 1;
 
-// The numbers of the questions, by their names (S4).
+// The numbers of the questions, by their names, in the order in which they are put (S4).
 pub const ROOM: u32 = 1;
 
 pub const SIZE: u32 = 2;
@@ -34,6 +34,8 @@ pub const SIZE: u32 = 2;
 pub const HEAD: u32 = 3;
 
 pub const FIELDS: u32 = 4;
+
+pub const COUNT: u32 = 10;
 
 pub const RANGES: u32 = 5;
 

@@ -55,6 +55,10 @@ pub fn words(fd: i32, n: u32) -> bool {
             b" (S4.8): a mark says settled, and the stage's value or a finding of its chosen check does not\n",
         ),
         9 => io::write_all(fd, b" (S4.9): the budget is 0\n"),
+        10 => io::write_all(
+            fd,
+            b" (S4.10): a counted junction writes another number of checks than follow it\n",
+        ),
         _ => io::write_all(fd, b"\n"),
     }
 }

@@ -2,19 +2,20 @@
 use Prim.Native.Nat.{ℕ, zero, suc, _-_, _<_, _≤_}
 use mathlib.Core.Path.{_≡_, refl, sym, ap, _∙_}
 use mathlib.Core.Bool.{Bool, true, false}
-use mathlib.Core.List.{List, _∷_, _++_}
+use mathlib.Core.List.{List, [], _∷_, _++_}
 use mathlib.Core.Logic.{_⊎_, inl, inr, ⊎-elim}
 use native.Mathlib.Omega.{arith}
 use borrow.Author.Tests.{le-leb, lt-leb}
-use lib.ListN.{length, take, drop, replicate, length-replicate}
+use lib.ListN.{length, getD, take, drop, replicate, length-replicate}
 use Rattle.model.specs.Tests.{all, every}
-use Rattle.model.specs.Problem.{Problem, Cell, states}
+use Rattle.model.specs.Problem.{Node, terminal, Problem, Cell, states}
 use Rattle.model.specs.Format.{Bytes, be16, offsetsFrom}
 use Rattle.model.specs.Read.{nodesGood, nodesRead, problemOf, cellsOf}
 use Rattle.model.specs.Limits.{maxStates, minBytes, maxBytes}
-use Rattle.model.specs.Questions.{question1, question2, question3, question4}
+use Rattle.model.specs.Questions.{question1, question2, question3, question4, countRight, question10}
 use Rattle.model.specs.Questions.{question5, question6, question7, question8, Question, question, sheetQuestionsUnder, firstNo}
 use Rattle.model.specs.Questions.{sheetRefusal, sheetRefusalUnder}
+use Rattle.model.proofs.TestLaws.{every-first}
 use Rattle.model.proofs.QuestionLaws.{first-from}
 use Rattle.model.specs.Report.{onRefusal, indexTable, refusedTable, checkedTable}
 use Rattle.layout.proofs.Heads.{head-raised}
@@ -25,7 +26,7 @@ use Rattle.sheet.proofs.Laws.{indexed}
 use Rattle.questions.specs.declared.states.Question.the-variants.{Ranges, Findings, Values, Marks}
 use Rattle.questions.specs.declared.Verdict.{Verdict}
 use Rattle.questions.specs.declared.Verdict.the-variants.{Accepted, Refused}
-use Rattle.questions.specs.Put.{passesAt, rangesAt, statesNo}
+use Rattle.questions.specs.Put.{passesAt, rangesAt, statesNo, countsRight}
 use Rattle.questions.specs.Table.{indexedBefore, servedBy, servedRefusal, askedTable}
 use Rattle.questions.specs.Verdicts.{verdictNumber, verdict}
 
@@ -101,6 +102,12 @@ module _ (limit : ℕ) (s : List ℕ) where
         unfolding firstNo question4
         no-4 h = rw (two, head, ← count, h)
 
+-- question 10 of a list of states, and of them one by one
+counts-all : (ns : List Node) → every (length ns) (λ i. countRight (getD ns i (terminal 0))) ≡ countsRight ns
+unfolding countsRight every
+counts-all [] = refl
+counts-all (n ∷ ns) = every-first (length ns) (λ i. countRight (getD (n ∷ ns) i (terminal 0))) ∙ rw (counts-all ns)
+
 -- A sheet of a right length whose head is in place under a limit of states, as are its n states.
 pub record Laid (limit : ℕ) (s : List ℕ) (n : ℕ) : Type 0 where
   pub least : minBytes ≤ length s
@@ -115,10 +122,20 @@ module _ {limit : ℕ} {s : List ℕ} {n : ℕ} (h : Laid limit s n) where
   unfolding question4
   in-place = rw (← h .count) (h .good)
 
+  -- question 10 of the states that were read
+  ten : (r b : Bool) → r ≡ countsRight (nodesRead n (drop 8 s)) → r ≡ b → question10 (problemOf s) ≡ b
+  unfolding question10 problemOf
+  ten r b is e = counts-all (problemOf s .nodes) ∙ rw (h .count) at (sym is) ∙ e
+
+  pub no-10 : (r : Bool) → r ≡ countsRight (nodesRead n (drop 8 s)) → r ≡ false → 10 ≡ firstNo (sheetQuestionsUnder limit s)
+  unfolding firstNo
+  no-10 r is e = rw (two limit s (h .least) (h .most), h .head, in-place, ten r false is e)
+
   -- questions 5 to 8 are left
-  pub then-states : firstNo (sheetQuestionsUnder limit s) ≡ statesNo (problemOf s) (cellsOf s)
+  pub then-states : (r : Bool) → r ≡ countsRight (nodesRead n (drop 8 s)) → r ≡ true →
+      firstNo (sheetQuestionsUnder limit s) ≡ statesNo (problemOf s) (cellsOf s)
   unfolding firstNo statesNo
-  then-states = rw (two limit s (h .least) (h .most), h .head, in-place)
+  then-states r is e = rw (two limit s (h .least) (h .most), h .head, in-place, ten r true is e)
 
   -- n and the nodes read are those of its problem
   pub states-are : n ≡ states (problemOf s)

@@ -33,5 +33,5 @@ module _ (p : Problem) (cells : List Cell) (question : Question) (before : Befor
       go : (n : Node) → chosenInRange n (cellOf cells s) ≡ true → 0 < length (actionsOf n) →
           cellOf cells s .chosen < length (actionsOf n)
       go (terminal cost) h some = absurd (omega arith)
-      go (decision []) h some = absurd (omega arith)
-      go (decision (a ∷ more)) h some = ltb-true _ _ (rw sol at h)
+      go (decision form []) h some = absurd (omega arith)
+      go (decision form (a ∷ more)) h some = ltb-true _ _ (rw sol at h)

@@ -9,8 +9,8 @@ use lib.Dec.{leb, ltb, eqb}
 use lib.ListN.{length, drop}
 use Rattle.model.proofs.TestLaws.{all-one}
 use Rattle.model.specs.Tests.{fork, all}
-use Rattle.model.specs.Problem.{Action, Node, terminal, decision, Cell, nodeAt, cellOf, valueOf, solved}
-use Rattle.model.specs.Format.{actionsOf, actionOffset}
+use Rattle.model.specs.Problem.{Action, Form, Node, terminal, decision, Cell, nodeAt, cellOf, valueOf, solved}
+use Rattle.model.specs.Format.{actionsOf, formOf, actionOffset}
 use Rattle.model.specs.Read.{actionRead, problemOf, cellsOf}
 use Rattle.model.specs.Limits.{ceiling, maxActions, maxCost}
 use Rattle.model.specs.QValue.{q}
@@ -29,15 +29,15 @@ both-false false c h = refl
 abbrev chosenFits : Bool → ℕ → ℕ → Bool
 chosenFits marked k m = fork (eqb k 0) (λ _. true) (λ _. fork marked (λ _. ltb k m) (λ _. false))
 
-chosen-fits : (acts : List Action) (c : Cell) → chosenInRange (decision acts) c ≡ chosenFits (solved c) (c .chosen) (length acts)
+chosen-fits : (form : Form) (acts : List Action) (c : Cell) → chosenInRange (decision form acts) c ≡ chosenFits (solved c) (c .chosen) (length acts)
 unfolding chosenInRange
-chosen-fits [] c = go (solved c) (eqb (c .chosen) 0) refl
+chosen-fits form [] c = go (solved c) (eqb (c .chosen) 0) refl
   where
     go : (b z : Bool) → eqb (c .chosen) 0 ≡ z → z ≡ fork z (λ _. true) (λ _. fork b (λ _. ltb (c .chosen) 0) (λ _. false))
     go b true e = refl
     go true false e = sym (le-ltb (c .chosen) 0 (omega arith))
     go false false e = refl
-chosen-fits (a ∷ more) c = go (solved c) (eqb (c .chosen) 0) refl
+chosen-fits form (a ∷ more) c = go (solved c) (eqb (c .chosen) 0) refl
   where
     m : ℕ
     m = length (a ∷ more)
@@ -85,7 +85,7 @@ module _ (n : Node) (c : Cell) where
             go true e = absurd (omega (arith, by-count true e))
             go false e = rw e
 
-        module _ (node : n ≡ decision (actionsOf n)) (counted : m ≡ 17 → ⊥) (k : ℕ) (is : k ≡ c .chosen) where
+        module _ (node : n ≡ decision (formOf n) (actionsOf n)) (counted : m ≡ 17 → ⊥) (k : ℕ) (is : k ≡ c .chosen) where
           ranges-are : rangesAt n c ≡ chosenFits (solved c) k m
           unfolding rangesAt all
           ranges-are = go (costsInRange n) refl
@@ -93,7 +93,7 @@ module _ (n : Node) (c : Cell) where
               go : (b : Bool) → costsInRange n ≡ b → rangesAt n c ≡ chosenFits (solved c) k m
               go true e =
                   rw (e, cell-is, by-count true e, is) (all-one (chosenInRange n c) ∙
-                  (ap (λ (x : Node). chosenInRange x c) node ∙ chosen-fits (actionsOf n) c))
+                  (ap (λ (x : Node). chosenInRange x c) node ∙ chosen-fits (formOf n) (actionsOf n) c))
               go false e = absurd (counted (by-count false e))
 
           pub zero-range : k ≡ 0 → true ≡ rangesAt n c

@@ -11,8 +11,8 @@ use lib.ListN.{length, getD, drop, drop-of-length-le}
 use lib.Seq.{drop-cons}
 use Rattle.model.proofs.TestLaws.{true-also, every-true, every-false}
 use Rattle.model.specs.Tests.{also, all, every}
-use Rattle.model.specs.Problem.{Kind, worst, whole, Action, decision, Problem, Cell, states, nodeAt, actionAt, cellOf, valueOf, solved}
-use Rattle.model.specs.Format.{terminalTag, decisionTag, actionTag, tagOf, actionsOf, actionOffset}
+use Rattle.model.specs.Problem.{Kind, worst, whole, Action, Form, decision, Problem, Cell, states, nodeAt, actionAt, cellOf, valueOf, solved}
+use Rattle.model.specs.Format.{terminalTag, formOf, actionTag, tagOf, actionsOf, actionOffset}
 use Rattle.model.specs.Read.{actionFits, actionRead, problemOf, cellsOf}
 use Rattle.model.specs.QValue.{q}
 use Rattle.model.specs.Limits.{maxCost, maxActions, noPlan}
@@ -21,7 +21,7 @@ use Rattle.model.specs.Questions.{markEarned}
 use Rattle.layout.proofs.Shapes.{member, ascending-in}
 use Rattle.sheet.specs.Sheet.{Sheet, Within, Terminal, Decision, Priced, terminalCost, ofKind}
 use Rattle.sheet.proofs.Joining.{of-worst, of-whole}
-use Rattle.sheet.proofs.Laws.{actionsAt, not-terminal, is-terminal, is-decision, few-actions, action-stands, action-ends}
+use Rattle.sheet.proofs.Laws.{actionsAt, is-terminal, is-decision, few-actions, action-stands, action-ends}
 use Rattle.sheet.proofs.Laws.{action-is, action-in-place, action-priced, action-after}
 use Rattle.questions.specs.Put.{countInRange}
 
@@ -49,8 +49,8 @@ abbrev pub priceOver : Problem → List Cell → ℕ → ℕ → Bool
 priceOver p cells s k = leb (valueOf cells s) (q (p .kind) (valueOf cells) (actionAt (actionsAt p s) k))
 
 -- the tests of one state, at a decision
-module _ (p : Problem) (s : ℕ) (tag : tagOf (nodeAt p s) ≡ decisionTag) where
-  node : nodeAt p s ≡ decision (actionsAt p s)
+module _ (p : Problem) (s : ℕ) (tag : tagOf (nodeAt p s) ≡ terminalTag → ⊥) where
+  node : nodeAt p s ≡ decision (formOf (nodeAt p s)) (actionsAt p s)
   node = is-decision (nodeAt p s) tag
 
   pub costs-are : costsInRange (nodeAt p s) ≡ every (length (actionsAt p s)) (costOfFits p s)
@@ -70,20 +70,20 @@ module _ (p : Problem) (s : ℕ) (tag : tagOf (nodeAt p s) ≡ decisionTag) wher
     pub earned-is : 0 < length (actionsAt p s) →
         markEarned p cells s (nodeAt p s) ≡ passedBy p cells s (actionAt (actionsAt p s) (cellOf cells s .chosen))
     unfolding markEarned
-    earned-is some = ap (markEarned p cells s) node ∙ go (actionsAt p s) some
+    earned-is some = ap (markEarned p cells s) node ∙ go (formOf (nodeAt p s)) (actionsAt p s) some
       where
-        go : (acts : List Action) → 0 < length acts →
-            markEarned p cells s (decision acts) ≡ passedBy p cells s (actionAt acts (cellOf cells s .chosen))
-        go [] some = absurd (omega arith)
-        go (a ∷ more) some = refl
+        go : (form : Form) (acts : List Action) → 0 < length acts →
+            markEarned p cells s (decision form acts) ≡ passedBy p cells s (actionAt acts (cellOf cells s .chosen))
+        go form [] some = absurd (omega arith)
+        go form (a ∷ more) some = refl
 
     pub earned-none : length (actionsAt p s) ≤ 0 → markEarned p cells s (nodeAt p s) ≡ eqb (valueOf cells s) noPlan
     unfolding markEarned
-    earned-none none = ap (markEarned p cells s) node ∙ go (actionsAt p s) none
+    earned-none none = ap (markEarned p cells s) node ∙ go (formOf (nodeAt p s)) (actionsAt p s) none
       where
-        go : (acts : List Action) → length acts ≤ 0 → markEarned p cells s (decision acts) ≡ eqb (valueOf cells s) noPlan
-        go [] none = refl
-        go (a ∷ more) none = absurd (omega arith)
+        go : (form : Form) (acts : List Action) → length acts ≤ 0 → markEarned p cells s (decision form acts) ≡ eqb (valueOf cells s) noPlan
+        go form [] none = refl
+        go form (a ∷ more) none = absurd (omega arith)
 
 -- a test of which nothing more is asked
 also-yes : (b : Bool) → also (all (true ∷ b ∷ [])) (λ _. true) ≡ b
@@ -150,7 +150,7 @@ unfolding all
 cost-fits c g h = rw (le-leb 1 c g, le-leb c maxCost h)
 
 -- question 6 gives that successors are states
-below : (p : Problem) (s : ℕ) → s < states p → tagOf (nodeAt p s) ≡ decisionTag → question6 p ≡ true →
+below : (p : Problem) (s : ℕ) → s < states p → (tagOf (nodeAt p s) ≡ terminalTag → ⊥) → question6 p ≡ true →
     (k : ℕ) → k < length (actionsAt p s) → (j : ℕ) → j < length (actionAt (actionsAt p s) k .successors) →
     getD (actionAt (actionsAt p s) k .successors) j 0 < states p
 unfolding question6
@@ -214,7 +214,7 @@ module _ {s t : List ℕ} {i : ℕ} (w : Within s t i) (b : Bool) (e : b ≡ eqb
   terminal-from g = record { within = w; tag = eqb-true _ _ (sym e ∙ g) }
 
   pub decision-from : b ≡ false → Decision s t i
-  decision-from g = record { within = w; tag = not-terminal (nodeAt (problemOf s) i) (eqb-false _ _ (sym e ∙ g)) }
+  decision-from g = record { within = w; tag = eqb-false _ _ (sym e ∙ g) }
 
 -- question 7 at a terminal, and of one action
 pub under-terminal : {s t : List ℕ} {i : ℕ} → Terminal s t i →

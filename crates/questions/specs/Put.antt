@@ -1,15 +1,15 @@
--- Questions 5 to 8 of one state, and what each may suppose of the questions before it.
+-- Questions 5 to 8 of one state, and what each may suppose of the questions before it; what reading the fields gives.
 use Prim.Native.Nat.{ℕ, suc, _<_}
 use mathlib.Core.Path.{_≡_}
 use mathlib.Core.Bool.{Bool, true}
 use mathlib.Core.List.{List, [], _∷_}
 use lib.ListN.{length}
-use Rattle.model.specs.Tests.{fork, all}
+use Rattle.model.specs.Tests.{fork, also, all}
 use Rattle.model.specs.Problem.{Node, Problem, Cell, states, nodeAt, cellOf, solved}
-use Rattle.model.specs.Format.{actionsOf}
+use Rattle.model.specs.Format.{decisionSize, actionsOf}
 use Rattle.model.specs.Limits.{maxActions}
-use Rattle.model.specs.Read.{fieldSize, actionFits}
-use Rattle.model.specs.Questions.{costsInRange, cellInRange, apart, successorsInOrder, valueUnder, markEarned}
+use Rattle.model.specs.Read.{fieldSize, actionFits, formRead, headerFits}
+use Rattle.model.specs.Questions.{countRight, costsInRange, cellInRange, apart, successorsInOrder, valueUnder, markEarned}
 use Rattle.model.specs.Questions.{question5, question6, stateQuestions, firstNo}
 use Rattle.questions.specs.declared.states.Question.{Question}
 use Rattle.questions.specs.declared.states.Question.the-variants.{Ranges, Findings, Values, Marks}
@@ -47,3 +47,12 @@ statesNo p cells = firstNo (stateQuestions p cells)
 -- the length of an action's field, of the bytes that it begins: 0 where it does not fit
 unfoldable pub fieldLength : List ℕ → ℕ
 fieldLength bs = fork (actionFits bs) (λ _. fieldSize bs) (λ _. 0)
+
+-- the length of a decision's own field, of the bytes that it begins: 0 where it does not fit
+unfoldable pub headerSize : List ℕ → ℕ
+headerSize bs = fork (headerFits bs) (λ _. decisionSize (formRead bs)) (λ _. 0)
+
+-- question 10 of some states
+unfoldable pub countsRight : List Node → Bool
+countsRight [] = true
+countsRight (n ∷ ns) = also (countRight n) (λ _. countsRight ns)

@@ -1,13 +1,16 @@
-// Question 4 (S4.4): are the fields in place? The index table is filled on the way.
+// Question 4 (S4.4): are the fields in place? The index table is filled on the way, and the numbers of actions that decisions write are
+// held to those that follow, for question 10 (S4.10).
 ghost use mathlib.Core.Path.{_≡_};
 ghost use mathlib.Core.Bool.{true};
 ghost use mathlib.Core.List.{_++_};
 ghost use Prim.Native.Nat.{_+_, _<_, _≤_};
 ghost use lib.ListN.{length, drop};
 ghost use Rattle.model.specs.Format.{be16, lengthIn, contentIn, maxActionLength, headSize, offsetsFrom};
-ghost use Rattle.model.specs.Read.{terminalFits, headerFits, nodesGood, nodesRead};
+ghost use Rattle.model.specs.Tests.{also};
+ghost use Rattle.model.specs.Read.{fieldFits, formRead, headerFits, nodesGood, nodesRead};
 ghost use Rattle.model.specs.Limits.{maxBytes};
-ghost use Rattle.questions.specs.Put.{fieldLength};
+ghost use Rattle.model.specs.Questions.{countIs};
+ghost use Rattle.questions.specs.Put.{fieldLength, headerSize, countsRight};
 use model::MAX_ACTIONS;
 use model::format;
 use sheet::convert::byte_to_index;
@@ -26,31 +29,57 @@ fn content_at(s: &[u8], at: usize) -> usize
     }
 }
 
-// Is a terminal's field, whose tag has been read, all there?
-fn terminal_fits(s: &[u8], at: usize) -> bool
-    requires { ⌜ (at ≤ length (now s)) × (length (now s) ≤ maxBytes) ⌝ }
-    ensures { λ r. ⌜ r ≡ terminalFits (drop at (now (s .entry))) ⌝ }
+// Is the field at `at`, whose tag has been read, one with a content of n bytes, all there?
+fn field_fits(s: &[u8], at: usize, n: usize) -> bool
+    requires { ⌜ (at ≤ length (now s)) × (length (now s) ≤ maxBytes) × (n < 256) ⌝ }
+    ensures { λ r. ⌜ r ≡ fieldFits n (drop at (now (s .entry))) ⌝ }
 {
-    if content_at(s, at) == format::TERMINAL_LENGTH {
-        at + format::TERMINAL_SIZE <= s.len()
+    if content_at(s, at) == n {
+        at + format::CONTENT_IN + n <= s.len()
     } else {
         false
     }
 }
 
-// Is a decision's own field there?
-fn header_fits(s: &[u8], at: usize) -> bool
+// The length of a decision's own field, in one form or the other: 0 where it does not fit.
+fn header_size(s: &[u8], at: usize) -> usize
     requires { ⌜ (at ≤ length (now s)) × (length (now s) ≤ maxBytes) ⌝ }
-    ensures { λ r. ⌜ r ≡ headerFits (drop at (now (s .entry))) ⌝ }
+    ensures { λ r. ⌜ (r ≡ headerSize (drop at (now (s .entry)))) × (r < 256) ⌝ }
 {
-    if byte_at(s, at) == format::DECISION_TAG {
-        if content_at(s, at) == format::DECISION_LENGTH {
-            at + format::DECISION_SIZE <= s.len()
+    let tag = byte_at(s, at);
+    if tag == format::PLAIN_TAG {
+        if field_fits(s, at, format::PLAIN_LENGTH) {
+            format::PLAIN_SIZE
+        } else {
+            0
+        }
+    } else {
+        if tag == format::COUNTED_TAG {
+            if field_fits(s, at, format::COUNTED_LENGTH) {
+                format::COUNTED_SIZE
+            } else {
+                0
+            }
+        } else {
+            0
+        }
+    }
+}
+
+// Question 10 (S4.10) of a decision with n actions, whose own field stands at `at`, and of the states before it, for which it is `before`.
+fn counts_right(s: &[u8], at: usize, n: usize, before: bool) -> bool
+    requires { ⌜ (at ≤ length (now s)) × (length (now s) ≤ maxBytes) ⌝ }
+    requires { ⌜ headerFits (drop at (now s)) ≡ true ⌝ }
+    ensures { λ r. ⌜ r ≡ also before (λ _. countIs (formRead (drop at (now (s .entry)))) n) ⌝ }
+{
+    if s[at] == format::COUNTED_TAG {
+        if byte_to_index(s[at + format::COUNT_IN]) == n {
+            before
         } else {
             false
         }
     } else {
-        false
+        before
     }
 }
 
@@ -77,32 +106,44 @@ fn action_length(s: &[u8], at: usize) -> usize
     }
 }
 
-// Question 4, of a sheet whose head says so many states. The first field out of place ends the reading, whichever loop it stands in. Where
-// there is none, the table begins with the states' offsets.
-pub(crate) fn fields_in_place(s: &[u8], table: &mut [u32], states: usize) -> bool
+// What reading the fields gives: whether they are in place, question 4; and whether each number of actions that was written, as far as they
+// were read, is right, question 10.
+pub(crate) struct Fields {
+    pub(crate) in_place: bool,
+    pub(crate) counts: bool,
+}
+
+// Questions 4 and 10, of a sheet whose head says so many states. The first field out of place ends the reading, whichever loop it stands in.
+// Where there is none, the table begins with the states' offsets.
+pub(crate) fn read_fields(s: &[u8], table: &mut [u32], states: usize) -> Fields
     requires { ⌜ (states ≤ length (now table)) × (headSize ≤ length (now s)) × (length (now s) ≤ maxBytes) ⌝ }
-    ensures { λ r. ⌜ r ≡ nodesGood states (drop headSize (now (s .entry))) ⌝ }
-    ensures { λ r. ⌜ (r ≡ true → now (table .exit) ≡
+    ensures { λ r. ⌜ r .in_place ≡ nodesGood states (drop headSize (now (s .entry))) ⌝ }
+    ensures { λ r. ⌜ (r .in_place ≡ true → r .counts ≡ countsRight (nodesRead states (drop headSize (now (s .entry))))) ⌝ }
+    ensures { λ r. ⌜ (r .in_place ≡ true → now (table .exit) ≡
         offsetsFrom headSize (nodesRead states (drop headSize (now (s .entry)))) ++ drop states (now (table .entry))) ⌝ }
 {
     let mut at: usize = format::HEAD_SIZE;
     let mut i: usize = 0;
+    let mut counts = true;
     'states: loop {
         if i == states {
-            return at == s.len();
+            let in_place = at == s.len();
+            return Fields { in_place, counts };
         }
         table[i] = index_to_word(at);
         i += 1;
         if byte_at(s, at) == format::TERMINAL_TAG {
-            if terminal_fits(s, at) {
+            if field_fits(s, at, format::TERMINAL_LENGTH) {
                 at += format::TERMINAL_SIZE;
                 continue 'states;
             } else {
                 break 'states;
             }
         }
-        if header_fits(s, at) {
-            at += format::DECISION_SIZE;
+        let header = at;
+        let size = header_size(s, header);
+        if 0 < size {
+            at += size;
             let mut n: usize = 0;
             while byte_at(s, at) == format::ACTION_TAG {
                 if n == MAX_ACTIONS {
@@ -116,9 +157,13 @@ pub(crate) fn fields_in_place(s: &[u8], table: &mut [u32], states: usize) -> boo
                     break 'states;
                 }
             }
+            counts = counts_right(s, header, n, counts);
         } else {
             break 'states;
         }
     }
-    false
+    Fields {
+        in_place: false,
+        counts,
+    }
 }

@@ -1,5 +1,5 @@
 // The questions of S4 put to a sheet's bytes, and the index table.
-mod fields; // fields.rt: question 4
+mod fields; // fields.rt: questions 4 and 10
 pub mod states; // states.rt: questions 5 to 8
 
 ghost use mathlib.Core.Path.{_≡_};
@@ -15,7 +15,8 @@ ghost use Rattle.sheet.specs.Sheet.{Within};
 ghost use Rattle.questions.specs.Put.{statesNo};
 ghost use Rattle.questions.specs.Table.{indexedBefore, servedBy, servedRefusal, askedTable};
 ghost use Rattle.questions.specs.Verdicts.{verdict};
-use fields::fields_in_place;
+use fields::read_fields;
+use model::COUNT;
 use model::FIELDS;
 use model::FINDINGS;
 use model::HEAD;
@@ -33,7 +34,7 @@ use sheet::numbers::get16;
 use states::Question;
 use states::all_pass;
 
-// A sheet's answer to questions 1 to 8: accepted, or refused by the number of the first whose answer is no.
+// A sheet's answer to every question but that on the budget: accepted, or refused by the number of the first whose answer is no.
 pub enum Verdict {
     Accepted,
     Refused(u32),
@@ -90,7 +91,7 @@ fn states_no(sheet: &[u8], table: &[u32], n: usize) -> u32
     }
 }
 
-// Questions 2 to 8 under a limit of states: the number of the first whose answer is no, 0 where there is none; then the table begins with
+// The questions about the sheet alone, under a limit of states: the number of the first whose answer is no, 0 where there is none; then the table begins with
 // the states' offsets.
 fn first_no(sheet: &[u8], table: &mut [u32], limit: usize) -> u32
     requires { ⌜ (limit ≤ length (now table)) × (limit ≤ maxStates) ⌝ }
@@ -105,8 +106,13 @@ fn first_no(sheet: &[u8], table: &mut [u32], limit: usize) -> u32
     }
     if head_in_place(sheet, limit) {
         let n = word_to_index(get16(sheet, format::STATES_IN));
-        if fields_in_place(sheet, table, n) {
-            states_no(sheet, table, n)
+        let f = read_fields(sheet, table, n);
+        if f.in_place {
+            if f.counts {
+                states_no(sheet, table, n)
+            } else {
+                COUNT
+            }
         } else {
             FIELDS
         }
@@ -137,7 +143,7 @@ fn served(table: &[u32]) -> usize
     }
 }
 
-// Questions 2 to 8 put to any bytes, with any table, under the limit of states that the table serves: a table of fewer than `MAX_STATES`
+// The questions about the sheet alone put to any bytes, with any table, under the limit of states that the table serves: a table of fewer than `MAX_STATES`
 // entries does for a sheet of no more states than that. The table's later content is all zero where a question is answered no, and when
 // accepted it begins with the states' offsets and stays as it was past the last state.
 pub fn ask(sheet: &[u8], table: &mut [u32]) -> Verdict
@@ -154,7 +160,7 @@ pub fn ask(sheet: &[u8], table: &mut [u32]) -> Verdict
     }
 }
 
-// Questions 1 to 8 put to any bytes, with any table. The table's later content is unchanged at 1, all zero at 2 to 8, and the states'
+// Question 1 and these put to any bytes, with any table. The table's later content is unchanged at 1, all zero at any other, and the states'
 // offsets and then zeros when accepted.
 pub fn check(sheet: &[u8], table: &mut [u32]) -> Verdict
     ensures answer { λ r. ⌜ r ≡ verdict (sheetRefusal (now (sheet .entry)) (length (now (table .entry)))) ⌝ }

@@ -51,3 +51,12 @@ pub fn work(label: &[u8], base: &[u8], at: usize, size: usize, x: u32, budget: u
 pub fn work_b(label: &[u8], at: usize, size: usize, x: u32) {
     work(label, &B, at, size, x, LARGEST);
 }
+
+// A sheet worked with a budget, and that sheet carried on.
+pub fn carried_on(worked: &[u8], on: &[u8], base: &[u8], budget: u64) {
+    let mut sheet = [0u8; 128];
+    let mut table = [0u32; MAX_STATES];
+    let n = lay(&mut sheet, base, 0, 0, 0);
+    work_line(worked, &mut sheet, n, &mut table, budget);
+    work_line(on, &mut sheet, n, &mut table, LARGEST);
+}

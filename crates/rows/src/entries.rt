@@ -8,6 +8,7 @@ use super::lines::word;
 use super::lines::worked;
 use super::sheets::A;
 use super::sheets::B;
+use super::sheets::J;
 use model::MAX_STATES;
 
 // The entries of the longest table.
@@ -79,7 +80,7 @@ fn ask(
     size: usize,
     first: usize,
 ) {
-    let mut sheet = [0u8; 81];
+    let mut sheet = [0u8; 82];
     let mut table = [0u32; LONGEST];
     lay(&mut sheet, base, at, width, x);
     if size <= LONGEST {
@@ -109,7 +110,7 @@ fn all_of_a(size: usize) {
     work_a(b"A-worked", size, LARGEST);
 }
 
-// Acceptance and the refusals 2 to 9 with one table.
+// Acceptance and the refusals 2 to 10 with one table.
 fn each(size: usize) {
     all_of_a(size);
     ask_b(b"B-16-bytes", 16, 0, 0, 0, size);
@@ -119,6 +120,8 @@ fn each(size: usize) {
     ask_b(b"B-finding-0", 52, 24, 2, 0, size);
     ask_b(b"B-value-101", 52, 11, 4, 101, size);
     ask_b(b"B-ending-settled-at-0", 52, 39, 1, 1, size);
+    ask(b"J", &J, 82, 0, 0, 0, size, 5);
+    ask(b"J-number-1", &J, 82, 17, 1, 1, size, 0);
 }
 
 // A table that served as long as sheets had at most 1,024 stages, one that is an entry too short, the shortest that serves, and a longer

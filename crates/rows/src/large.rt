@@ -14,7 +14,6 @@ use super::lines::work_line;
 use super::sheets::ENDING;
 use super::sheets::FAN;
 use super::sheets::HALVES;
-use super::sheets::JUNCTION;
 use model::MAX_STATES;
 
 // A head, a block once, a block so many times, and so many endings.
@@ -34,10 +33,10 @@ fn build(
 
 // A line of `check`, whose label has `-check` at its end, and one of `solve`, on a junction with a block so many times, and so many
 // endings.
-pub fn both(label: &[u8], stages: u32, block: &[u8], times: u32, endings: u32) {
+pub fn both(label: &[u8], stages: u32, junction: &[u8], block: &[u8], times: u32, endings: u32) {
     let mut sheet = [0u8; 300];
     let mut table = [0u32; MAX_STATES];
-    let n = build(&mut sheet, stages, &JUNCTION, block, times, endings);
+    let n = build(&mut sheet, stages, junction, block, times, endings);
     word(label);
     ask_line(b"-check", &sheet, n, &mut table);
     work_line(label, &mut sheet, n, &mut table, LARGEST);

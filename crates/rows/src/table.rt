@@ -2,14 +2,14 @@
 use super::cases::ask;
 use super::cases::ask_b;
 use super::cases::ask_ending;
-use super::cases::lay;
+use super::cases::carried_on;
 use super::cases::work;
 use super::cases::work_b;
+use super::counted::counted_rows;
 use super::large::beside;
 use super::large::both;
 use super::large::chains;
 use super::lines::LARGEST;
-use super::lines::work_line;
 use super::sheets::A;
 use super::sheets::APART_E;
 use super::sheets::B;
@@ -26,20 +26,11 @@ use super::sheets::FINDINGS_17;
 use super::sheets::FREE_C;
 use super::sheets::G;
 use super::sheets::H;
+use super::sheets::JUNCTION;
 use super::sheets::ONE;
 use super::sheets::PAIR_E;
 use super::sheets::SETTLED_F;
 use super::sheets::VALUED_D;
-use model::MAX_STATES;
-
-// A sheet worked with a budget, and that sheet carried on.
-fn carried_on(worked: &[u8], on: &[u8], base: &[u8], budget: u64) {
-    let mut sheet = [0u8; 128];
-    let mut table = [0u32; MAX_STATES];
-    let n = lay(&mut sheet, base, 0, 0, 0);
-    work_line(worked, &mut sheet, n, &mut table, budget);
-    work_line(on, &mut sheet, n, &mut table, LARGEST);
-}
 
 // One ending, of cost 0 and of cost 70; sheet A; sheet B of both kinds, and with a value at its check's price and above.
 fn first_rows() {
@@ -67,10 +58,10 @@ fn refusals() {
 fn last_rows() {
     chains();
     work(b"cost-0-and-cut", &B[..51], 20, 4, 0, LARGEST);
-    both(b"checks-16", 2, &CHECK, 16, 1);
-    both(b"checks-17", 2, &CHECK, 17, 1);
-    both(b"findings-16", 17, &FINDINGS_16, 1, 16);
-    both(b"findings-17", 18, &FINDINGS_17, 1, 17);
+    both(b"checks-16", 2, &JUNCTION, &CHECK, 16, 1);
+    both(b"checks-17", 2, &JUNCTION, &CHECK, 17, 1);
+    both(b"findings-16", 17, &JUNCTION, &FINDINGS_16, 1, 16);
+    both(b"findings-17", 18, &JUNCTION, &FINDINGS_17, 1, 17);
 }
 
 // One ending, with as many stages in its head as a sheet may have, and one more.
@@ -146,4 +137,5 @@ pub fn rows() {
     repeat_rows();
     barren_rows();
     none_rows();
+    counted_rows();
 }

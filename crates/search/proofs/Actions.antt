@@ -6,7 +6,7 @@ use mathlib.Core.List.{List}
 use native.Mathlib.Omega.{arith}
 use lib.ListN.{length, getD, drop}
 use Rattle.model.specs.Problem.{Problem, Cell, states, nodeAt, actionAt}
-use Rattle.model.specs.Format.{be16, decisionTag, tagOf, actionOffset}
+use Rattle.model.specs.Format.{be16, terminalTag, tagOf, actionOffset}
 use Rattle.model.specs.Read.{actionFits, actionRead}
 use Rattle.model.specs.Limits.{maxActions}
 use Rattle.layout.proofs.Actions.{successor-of}
@@ -18,7 +18,7 @@ use Rattle.theory.specs.Consistent.{WellFormed}
 pub record Turn (p : Problem) (i n o : ℕ) : Type 0 where
   pub formed : WellFormed p
   pub below : i < states p
-  pub tag : tagOf (nodeAt p i) ≡ decisionTag
+  pub tag : tagOf (nodeAt p i) ≡ terminalTag → ⊥
   pub exists : n < length (actionsAt p i)
   pub place : o ≡ actionOffset p i n
 

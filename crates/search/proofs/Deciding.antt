@@ -9,7 +9,7 @@ use native.Mathlib.Numerals.{add-one}
 use lib.Dec.{eqb}
 use lib.ListN.{length, getD, drop}
 use Rattle.model.specs.Problem.{Problem, states, nodeAt, actionAt, cellOf, valueOf}
-use Rattle.model.specs.Format.{decisionTag, actionTag, tagOf, valueOffset, actionOffset}
+use Rattle.model.specs.Format.{terminalTag, actionTag, tagOf, valueOffset, actionOffset}
 use Rattle.model.specs.Read.{problemOf, cellsOf, actionRead}
 use Rattle.model.specs.Limits.{noPlan}
 use Rattle.model.specs.QValue.{q, least}
@@ -41,7 +41,7 @@ pub record Opened (t : List ℕ) (p : Problem) (budget : ℕ) (d : OpenDecision)
   pub formed : WellFormed p
   pub ready : Ready p budget (reached s r)
   pub below : d .state < states p
-  pub tag : tagOf (nodeAt p (d .state)) ≡ decisionTag
+  pub tag : tagOf (nodeAt p (d .state)) ≡ terminalTag → ⊥
   pub unsolved : solvedAt (reached s r) (d .state) ≡ false
   pub place : d .cell ≡ valueOffset p (d .state)
   pub now : d .value ≡ valueOf (cellsOf s) (d .state)

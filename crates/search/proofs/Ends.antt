@@ -7,10 +7,11 @@ use mathlib.Core.List.{List, [], _∷_}
 use native.Mathlib.Omega.{arith}
 use lib.ListN.{length}
 use Rattle.model.specs.Problem.{Node, terminal, decision, Problem, Cell, states, nodeAt, cellOf, solved}
-use Rattle.model.specs.Format.{terminalTag, decisionTag, tagOf, actionsOf}
+use Rattle.model.specs.Format.{terminalTag, tagOf, actionsOf}
 use Rattle.model.specs.Limits.{noPlan}
 use Rattle.model.specs.Ldfs.{finish}
 use Rattle.sheet.specs.Sheet.{terminalCost}
+use Rattle.sheet.proofs.Laws.{other-tag}
 use Rattle.theory.specs.Consistent.{endOf, WellFormed}
 use Rattle.theory.proofs.Turns.{visit-end}
 use Rattle.search.specs.declared.visits.Visited.{Visited}
@@ -20,13 +21,13 @@ use Rattle.search.proofs.Updates.{also-said}
 pub terminal-end : (n : Node) → tagOf n ≡ terminalTag → endOf n ≡ some (terminalCost n)
 unfolding tagOf terminalCost
 terminal-end (terminal cost) e = refl
-terminal-end (decision acts) e = absurd (omega arith)
+terminal-end (decision form acts) e = absurd (other-tag form e)
 
-pub barren-end : (n : Node) → tagOf n ≡ decisionTag → length (actionsOf n) ≤ 0 → endOf n ≡ some noPlan
+pub barren-end : (n : Node) → (tagOf n ≡ terminalTag → ⊥) → length (actionsOf n) ≤ 0 → endOf n ≡ some noPlan
 unfolding tagOf actionsOf
 barren-end (terminal cost) e none = absurd (omega arith)
-barren-end (decision []) e none = refl
-barren-end (decision (a ∷ more)) e none = absurd (omega arith)
+barren-end (decision form []) e none = refl
+barren-end (decision form (a ∷ more)) e none = absurd (omega arith)
 
 -- such a state, open, that was finished at x has been visited
 pub ends-said : {s t : List ℕ} {p : Problem} (cells : List Cell) (budget i r x : ℕ) {v : Visited} → WellFormed p → i < states p →

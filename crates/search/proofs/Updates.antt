@@ -10,7 +10,7 @@ use native.Mathlib.Numerals.{add-one}
 use lib.ListN.{length, set}
 use lib.Seq.{getD-set-same}
 use Rattle.model.specs.Problem.{Problem, Cell, cell, states, nodeAt, cellOf, setValue, setSolved}
-use Rattle.model.specs.Format.{put32, decisionTag, tagOf, valueOffset}
+use Rattle.model.specs.Format.{put32, terminalTag, tagOf, valueOffset}
 use Rattle.model.specs.Read.{problemOf, cellsOf}
 use Rattle.model.specs.Ldfs.{Search, Visit, success, failure, halt, valueAt, marked, update, finish}
 use Rattle.sheet.specs.Sheet.{Sheet}
@@ -67,7 +67,7 @@ value-room g = let w = g .decision .within in omega (arith, g .place, chosen-roo
 
 -- a decision whose value stands at `at` is marked, and action n chosen
 pub decision-marked : {s t : List ℕ} {p : Problem} {cells : List Cell} (i n : ℕ) {at : ℕ} → Sheet s t p cells → i < states p →
-    tagOf (nodeAt p i) ≡ decisionTag →
+    (tagOf (nodeAt p i) ≡ terminalTag → ⊥) →
     at ≡ valueOffset p i → {s′ : List ℕ} → s′ ≡ set (set s (at + 4) 1) (at + 5) n → Sheet s′ t p (setSolved cells i n)
 decision-marked i n h lt tag place e = rw (e, place) (with-decision-solved h i lt tag n)
 

@@ -9,58 +9,64 @@ use borrow.Author.Tests.{eqb-true, eqb-false, lt-ltb, le-ltb}
 use lib.Dec.{eqb, ltb}
 use lib.ListN.{length, getD, set, drop, length-set, length-append, List·getD-append}
 use lib.Seq.{getD-set-same, getD-set-other, set-set}
-use Rattle.model.specs.Problem.{Action, Node, terminal, decision, Problem, Cell, cell, states, nodeAt, actionAt, cellOf}
-use Rattle.model.specs.Problem.{setValue, setSolved}
-use Rattle.model.specs.Format.{be32, put32, terminalTag, decisionTag, actionTag, write, nodeSize, actionPlace, tagOf}
-use Rattle.model.specs.Format.{valueIn, valueOffset, actionsOf, actionOffset, offsetsFrom}
+use Rattle.model.specs.Problem.{Action, Form, plain, counted, Node, terminal, decision, Problem, Cell, cell, states, nodeAt, actionAt}
+use Rattle.model.specs.Problem.{cellOf, setValue, setSolved}
+use Rattle.model.specs.Format.{be32, put32, terminalTag, decisionTag, actionTag, decisionLength, write, nodeSize, actionPlace, tagOf}
+use Rattle.model.specs.Format.{valueIn, valueOffset, actionsOf, formOf, actionOffset, offsetsFrom}
 use Rattle.model.specs.Read.{actionFits, actionRead, problemOf, cellsOf}
 use Rattle.model.specs.Limits.{maxActions, maxSuccessors}
 use Rattle.layout.specs.Shape.{FewSuccessors, NodeShaped, ChosenShaped, Shaped, setMark, setChosen}
 use Rattle.layout.proofs.Index.{offsets-count, index-is}
-use Rattle.layout.proofs.Places.{write-length}
+use Rattle.layout.proofs.Places.{form-length, write-length}
 use Rattle.layout.proofs.Shapes.{node-shaped, action-shaped}
 use Rattle.layout.proofs.Fields.{state-room, value-room, tag-at, value-at, mark-at, value-stored, mark-stored, cost-at}
-use Rattle.layout.proofs.Fields.{chosen-at, chosen-stored, action-tag-at, action-next, after-last}
+use Rattle.layout.proofs.Fields.{header-length-at, chosen-at, chosen-stored, action-tag-at, action-next, after-last}
 use Rattle.layout.proofs.Back.{problem-back, cells-back}
 use Rattle.layout.proofs.Actions.{content-of, count-of, written-action, written-fits}
 use Rattle.sheet.specs.Sheet.{Sheet, Within, Terminal, Decision, Priced, terminalCost}
+
+-- a decision is no terminal
+pub other-tag : (form : Form) → decisionTag form ≡ terminalTag → ⊥
+unfolding decisionTag
+other-tag plain e = omega arith
+other-tag (counted n) e = omega arith
 
 -- A node by its tag, and where the value stands in its field.
 pub is-terminal : (n : Node) → tagOf n ≡ terminalTag → n ≡ terminal (terminalCost n)
 unfolding tagOf terminalCost
 is-terminal (terminal cost) e = refl
-is-terminal (decision acts) e = absurd (omega arith)
-
-pub is-decision : (n : Node) → tagOf n ≡ decisionTag → n ≡ decision (actionsOf n)
-unfolding tagOf actionsOf
-is-decision (terminal cost) e = absurd (omega arith)
-is-decision (decision acts) e = refl
+is-terminal (decision form acts) e = absurd (other-tag form e)
 
 -- a state that is no terminal is a decision
-pub not-terminal : (n : Node) → (tagOf n ≡ terminalTag → ⊥) → tagOf n ≡ decisionTag
-unfolding tagOf
-not-terminal (terminal cost) e = absurd (e refl)
-not-terminal (decision acts) e = refl
+pub is-decision : (n : Node) → (tagOf n ≡ terminalTag → ⊥) → n ≡ decision (formOf n) (actionsOf n)
+unfolding tagOf formOf actionsOf
+is-decision (terminal cost) e = absurd (e refl)
+is-decision (decision form acts) e = refl
 
 terminal-value : (n : Node) → tagOf n ≡ terminalTag → valueIn n ≡ 7
 unfolding tagOf valueIn
 terminal-value (terminal cost) e = refl
-terminal-value (decision acts) e = absurd (omega arith)
+terminal-value (decision form acts) e = absurd (other-tag form e)
 
 decision-value : (n : Node) → (tagOf n ≡ terminalTag → ⊥) → valueIn n ≡ 3
 unfolding tagOf valueIn
 decision-value (terminal cost) e = absurd (e refl)
-decision-value (decision acts) e = refl
+decision-value (decision form acts) e = refl
 
 nine-inside : (n : Node) → 9 ≤ nodeSize n
 unfolding nodeSize
 nine-inside (terminal cost) = omega arith
-nine-inside (decision acts) = omega arith
+nine-inside (decision form acts) = omega (arith, form-length form)
+
+own-inside : (n : Node) → (tagOf n ≡ terminalTag → ⊥) → 3 + decisionLength (formOf n) ≤ nodeSize n
+unfolding tagOf formOf nodeSize
+own-inside (terminal cost) e = absurd (e refl)
+own-inside (decision form acts) e = omega arith
 
 -- what is chosen stays in shape
 chosen-kept : (n : Node) (c c′ : Cell) → c′ .chosen ≡ c .chosen → ChosenShaped n c → ChosenShaped n c′
 chosen-kept (terminal cost) c c′ e h = e ∙ h
-chosen-kept (decision acts) c c′ e h = tt
+chosen-kept (decision form acts) c c′ e h = tt
 
 -- one cell changed
 pub shaped-set : {p : Problem} {cells : List Cell} → Shaped p cells → (i : ℕ) (c : Cell) → i < states p →
@@ -121,7 +127,7 @@ module _ {s t : List ℕ} {p : Problem} {cells : List Cell} (h : Sheet s t p cel
   pub terminal-tag : {i : ℕ} → Terminal s t i → tagOf (nodeAt p i) ≡ terminalTag
   terminal-tag w = rw problem-is at (w .tag)
 
-  pub decision-tag : {i : ℕ} → Decision s t i → tagOf (nodeAt p i) ≡ decisionTag
+  pub decision-tag : {i : ℕ} → Decision s t i → tagOf (nodeAt p i) ≡ terminalTag → ⊥
   decision-tag w = rw problem-is at (w .tag)
 
 pub sheet-length : {s s′ t t′ : List ℕ} {p : Problem} {cells cells′ : List Cell} → Sheet s t p cells →
@@ -157,10 +163,6 @@ module _ {s t : List ℕ} {p : Problem} {cells : List Cell} (h : Sheet s t p cel
       (o + 3 ≡ valueOffset p i) × (o + 3 + 5 ≤ length s)
   place-decision o here e = value-place o 3 here (decision-value (nodeAt p i) (λ y. e (rw here (tag-of ∙ y))))
 
-  pub first-action-at : (o : ℕ) → o ≡ getD t i 0 → o + 9 ≡ actionOffset p i 0
-  unfolding actionOffset actionPlace
-  first-action-at o here = omega (arith, h .table i lt)
-
   pub value-of : be32 s (valueOffset p i) ≡ cellOf cells i .value
   value-of = rw (h .is) (value-at p cells i lt)
 
@@ -194,13 +196,23 @@ module _ {s t : List ℕ} {p : Problem} {cells : List Cell} (h : Sheet s t p cel
     terminal-cost-of = rw (h .is, h .table i lt) (cost-at p cells i lt (terminalCost (nodeAt p i)) (is-terminal (nodeAt p i) tag))
 
   -- a decision
-  module _ (tag : tagOf (nodeAt p i) ≡ decisionTag) where
+  module _ (tag : tagOf (nodeAt p i) ≡ terminalTag → ⊥) where
     pub chosen-room : valueOffset p i + 6 ≤ length s
     unfolding valueOffset
-    chosen-room = omega (arith, long, decision-value (nodeAt p i) (λ y. omega arith), state-room p cells i lt, nine-inside (nodeAt p i))
+    chosen-room = omega (arith, long, decision-value (nodeAt p i) tag, state-room p cells i lt, nine-inside (nodeAt p i))
 
     pub chosen-of : getD s (valueOffset p i + 5) 0 ≡ cellOf cells i .chosen
     chosen-of = rw (h .is) (chosen-at p cells i lt (actionsOf (nodeAt p i)) (is-decision (nodeAt p i) tag))
+
+    -- its first action stands behind a content of as many bytes as the second byte of its length says
+    pub first-action-at : (o n : ℕ) → o ≡ getD t i 0 → n ≡ getD s (o + 2) 0 →
+        (o + 3 + n ≡ actionOffset p i 0) × (o + 3 + n ≤ length s)
+    unfolding actionOffset actionPlace
+    first-action-at o n here is =
+        let node = is-decision (nodeAt p i) tag in
+        let says : n ≡ decisionLength (formOf (nodeAt p i)) =
+        is ∙ rw (here, h .table i lt, h .is) (header-length-at p cells i lt (actionsOf (nodeAt p i)) node) in
+        omega (arith, long, h .table i lt, state-room p cells i lt, own-inside (nodeAt p i) tag)
 
     pub with-chosen : (k : ℕ) → Sheet (set s (valueOffset p i + 5) k) t p (setChosen cells i k)
     with-chosen k =
@@ -212,7 +224,7 @@ pub head-room : {s t : List ℕ} {p : Problem} {cells : List Cell} → Sheet s t
 head-room h = omega (arith, nine-room h 0 (h .shaped .some))
 
 pub with-decision-solved : {s t : List ℕ} {p : Problem} {cells : List Cell} → Sheet s t p cells → (i : ℕ) → i < states p →
-    tagOf (nodeAt p i) ≡ decisionTag → (k : ℕ) →
+    (tagOf (nodeAt p i) ≡ terminalTag → ⊥) → (k : ℕ) →
     Sheet (set (set s (valueOffset p i + 4) 1) (valueOffset p i + 5) k) t p (setSolved cells i k)
 with-decision-solved {cells} h i lt tag k =
     rw (set-set, getD-set-same cells i _ _ (has-cell h i lt)) at (with-chosen (with-mark h i lt 1) i lt tag k)
@@ -222,11 +234,11 @@ abbrev pub actionsAt : Problem → ℕ → List Action
 actionsAt p i = actionsOf (nodeAt p i)
 
 module _ {s t : List ℕ} {p : Problem} {cells : List Cell} (h : Sheet s t p cells) (i : ℕ) (lt : i < states p)
-    (tag : tagOf (nodeAt p i) ≡ decisionTag) where
-  node-is : nodeAt p i ≡ decision (actionsAt p i)
+    (tag : tagOf (nodeAt p i) ≡ terminalTag → ⊥) where
+  node-is : nodeAt p i ≡ decision (formOf (nodeAt p i)) (actionsAt p i)
   node-is = is-decision (nodeAt p i) tag
 
-  shape : NodeShaped (decision (actionsAt p i))
+  shape : NodeShaped (decision (formOf (nodeAt p i)) (actionsAt p i))
   shape = rw node-is at (node-shaped (p .nodes) (h .shaped .nodes) i)
 
   pub few-actions : length (actionsAt p i) ≤ maxActions

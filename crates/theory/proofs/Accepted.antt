@@ -11,7 +11,7 @@ use lib.Dec.{leb}
 use lib.ListN.{length, List·getD-eq-default}
 use Rattle.model.proofs.TestLaws.{also-true, true-also, all-true, true-all, every-true, true-every}
 use Rattle.model.specs.Tests.{fork}
-use Rattle.model.specs.Problem.{Action, action, Node, terminal, decision, Problem, Cell, cell, states, nodeAt, actionAt}
+use Rattle.model.specs.Problem.{Action, action, Form, Node, terminal, decision, Problem, Cell, cell, states, nodeAt, actionAt}
 use Rattle.model.specs.Problem.{cellOf, solved, _∈_, here, there}
 use Rattle.model.specs.Limits.{ceiling, noPlan, maxCost}
 use Rattle.model.specs.Questions.{costsInRange, chosenInRange, cellInRange, question5, apart, ascending, successorsInOrder, question6}
@@ -46,14 +46,15 @@ ascends d low n (t ∷ ts) h =
     let (_, _, more) = ascending-first d low n t ts h in
     (λ u m. omega (arith, ascending-in d (t + d) n ts more u m), ascends d (t + d) n ts more)
 
-module _ (p : Problem) (cells : List Cell) (h : Asked p cells) where
-  is-state : (s : ℕ) (acts : List Action) → nodeAt p s ≡ decision acts → s < states p
-  is-state s acts e = go (lt-or-le s (states p))
-    where
-      go : (s < states p) ⊎ (states p ≤ s) → s < states p
-      go (inl l) = l
-      go (inr le) = let z : _≡_ {A = ℕ} 0 1 = cc (List·getD-eq-default (p .nodes) (terminal 0) {n = s} le) in absurd (omega arith)
+-- past the last state there is no decision
+pub is-state : (p : Problem) (s : ℕ) {form : Form} (acts : List Action) → nodeAt p s ≡ decision form acts → s < states p
+is-state p s acts e = go (lt-or-le s (states p))
+  where
+    go : (s < states p) ⊎ (states p ≤ s) → s < states p
+    go (inl l) = l
+    go (inr le) = let z : _≡_ {A = ℕ} 0 1 = cc (List·getD-eq-default (p .nodes) (terminal 0) {n = s} le) in absurd (omega arith)
 
+module _ (p : Problem) (cells : List Cell) (h : Asked p cells) where
   five : (s : ℕ) → s < states p → (costsInRange (nodeAt p s) ≡ true) × (cellInRange (nodeAt p s) (cellOf cells s) ≡ true)
   unfolding question5
   five s l = let e = all-true _ (every-true (states p) _ (h .five) s l) in (e .0, e .1 .0)
@@ -72,18 +73,18 @@ module _ (p : Problem) (cells : List Cell) (h : Asked p cells) where
         (action-shaped acts i l (shape s acts e .1) .0, ascends (apart (p .kind)) (s + 1) (states p) _ (in-order s i acts e l));
   }
     where
-      shape : (s : ℕ) (acts : List Action) → nodeAt p s ≡ decision acts → NodeShaped (decision acts)
+      shape : (s : ℕ) {form : Form} (acts : List Action) → nodeAt p s ≡ decision form acts → NodeShaped (decision form acts)
       shape s acts e = subst NodeShaped e (node-shaped (p .nodes) (h .shaped .nodes) s)
 
-      in-order : (s i : ℕ) (acts : List Action) → nodeAt p s ≡ decision acts → i < length acts →
+      in-order : (s i : ℕ) {form : Form} (acts : List Action) → nodeAt p s ≡ decision form acts → i < length acts →
           ascending (apart (p .kind)) (s + 1) (states p) (actionAt acts i .successors) ≡ true
-      in-order s i acts e l = every-true (length acts) _ (rw e at (six s (is-state s acts e))) i l
+      in-order s i acts e l = every-true (length acts) _ (rw e at (six s (is-state p s acts e))) i l
 
       cap : (s cost : ℕ) → nodeAt p s ≡ terminal cost → (s < states p) ⊎ (states p ≤ s) → cost ≤ ceiling
       cap s cost e (inl l) = omega (arith, leb-true cost maxCost (rw e at (five s l .0)))
       cap s cost e (inr le) = let z : cost ≡ 0 = cc (List·getD-eq-default (p .nodes) (terminal 0) {n = s} le) in omega arith
 
-      ahead : (s i t : ℕ) (acts : List Action) → nodeAt p s ≡ decision acts → t ∈ actionAt acts i .successors →
+      ahead : (s i t : ℕ) {form : Form} (acts : List Action) → nodeAt p s ≡ decision form acts → t ∈ actionAt acts i .successors →
           (i < length acts) ⊎ (length acts ≤ i) → (s < t) × (t < states p)
       ahead s i t acts e m (inl l) =
           let (low, high) = ascending-in (apart (p .kind)) (s + 1) (states p) _ (in-order s i acts e l) t m in (omega arith, high)
@@ -127,8 +128,8 @@ module _ (p : Problem) (cells : List Cell) (h : Asked p cells) where
 
           open-chosen : (n : Node) → nodeAt p s ≡ n → solved (cellOf cells s) ≡ false → cellOf cells s .chosen ≡ 0
           open-chosen (terminal cost) e o = shape (terminal cost) e
-          open-chosen (decision []) e o = eqb-true _ _ (chosen (decision []) e)
-          open-chosen (decision (a ∷ more)) e o = eqb-true _ _ (rw o at (chosen (decision (a ∷ more)) e))
+          open-chosen (decision form []) e o = eqb-true _ _ (chosen (decision form []) e)
+          open-chosen (decision form (a ∷ more)) e o = eqb-true _ _ (rw o at (chosen (decision form (a ∷ more)) e))
 
           ends : (n : Node) → nodeAt p s ≡ n → (x : ℕ) → endOf n ≡ some x →
               (cellOf cells s .chosen ≡ 0) × (cellOf cells s .value ≤ x) ×
@@ -136,18 +137,18 @@ module _ (p : Problem) (cells : List Cell) (h : Asked p cells) where
           ends (terminal cost) e x f =
               let same : cost ≡ x = cc in
               rw (← same) (shape (terminal cost) e, leb-true _ _ (rw e at seven), λ sol. eqb-true _ _ (rw (sol, e) at eight))
-          ends (decision []) e x f =
+          ends (decision form []) e x f =
               let same : noPlan ≡ x = cc in
-              let none-chosen = eqb-true _ _ (chosen (decision []) e) in
+              let none-chosen = eqb-true _ _ (chosen (decision form []) e) in
               rw (← same) (none-chosen, leb-true _ _ (range .0), λ sol. eqb-true _ _ (rw (sol, e) at eight))
-          ends (decision (a ∷ more)) e x f = not-some refl f
+          ends (decision form (a ∷ more)) e x f = not-some refl f
 
-          settled : (acts : List Action) → nodeAt p s ≡ decision acts → 0 < length acts → solved (cellOf cells s) ≡ true →
+          settled : {form : Form} (acts : List Action) → nodeAt p s ≡ decision form acts → 0 < length acts → solved (cellOf cells s) ≡ true →
               Settles p cells s (cellOf cells s .chosen) acts
           settled [] e has sol = absurd (omega arith)
-          settled (a ∷ more) e has sol = let b = all-true _ (rw (sol, e) at eight) in
+          settled {form} (a ∷ more) e has sol = let b = all-true _ (rw (sol, e) at eight) in
               record {
-                exists = ltb-true _ _ (rw sol at (chosen (decision (a ∷ more)) e));
+                exists = ltb-true _ _ (rw sol at (chosen (decision form (a ∷ more)) e));
                 priced = eqb-true _ _ (b .0);
                 below = all-solved cells _ (b .1 .0);
               }
@@ -177,6 +178,7 @@ still-asked p first cells h g = record {
     count = g .size;
     chosen = λ s l. chosen s (nodeAt p s) refl;
   };
+  ten = h .ten;
   five = true-every (states p) _ (λ s l. true-all _ (five p first h s l .0, (in-range s, tt)));
   six = h .six;
   seven = true-every (states p) _ (λ s l. under s (nodeAt p s) refl);
@@ -185,14 +187,14 @@ still-asked p first cells h g = record {
   where
     chosen : (s : ℕ) (n : Node) → nodeAt p s ≡ n → ChosenShaped n (cellOf cells s)
     chosen s (terminal cost) e = g .sound s .endless cost (rw e)
-    chosen s (decision acts) e = tt
+    chosen s (decision form acts) e = tt
 
     range : (s : ℕ) (n : Node) → nodeAt p s ≡ n → (b : Bool) → solved (cellOf cells s) ≡ b →
         chosenInRange n (cellOf cells s) ≡ true
     range s (terminal cost) e b eb = refl
-    range s (decision []) e b eb = eq-eqb _ _ (g .sound s .endless noPlan (rw e))
-    range s (decision (a ∷ more)) e true eb = rw eb (lt-ltb _ _ (g .sound s .settles (a ∷ more) e (omega arith) eb .exists))
-    range s (decision (a ∷ more)) e false eb = rw eb (eq-eqb _ _ (g .sound s .unchosen eb))
+    range s (decision form []) e b eb = eq-eqb _ _ (g .sound s .endless noPlan (rw e))
+    range s (decision form (a ∷ more)) e true eb = rw eb (lt-ltb _ _ (g .sound s .settles (a ∷ more) e (omega arith) eb .exists))
+    range s (decision form (a ∷ more)) e false eb = rw eb (eq-eqb _ _ (g .sound s .unchosen eb))
 
     in-range : (s : ℕ) → cellInRange (nodeAt p s) (cellOf cells s) ≡ true
     in-range s =
@@ -201,13 +203,13 @@ still-asked p first cells h g = record {
 
     under : (s : ℕ) (n : Node) → nodeAt p s ≡ n → valueUnder p cells s n ≡ true
     under s (terminal cost) e = le-leb _ _ (g .sound s .under-end cost (rw e))
-    under s (decision acts) e = true-every (length acts) _ (λ i l. le-leb _ _ (g .sound s .under-q acts i e l))
+    under s (decision form acts) e = true-every (length acts) _ (λ i l. le-leb _ _ (g .sound s .under-q acts i e l))
 
     earned : (s : ℕ) (n : Node) → nodeAt p s ≡ n → (b : Bool) → solved (cellOf cells s) ≡ b →
         fork b (λ _. markEarned p cells s n) (λ _. true) ≡ true
     earned s n e false eb = refl
     earned s (terminal cost) e true eb = eq-eqb _ _ (g .sound s .at-end cost (rw e) eb)
-    earned s (decision []) e true eb = eq-eqb _ _ (g .sound s .at-end noPlan (rw e) eb)
-    earned s (decision (a ∷ more)) e true eb =
+    earned s (decision form []) e true eb = eq-eqb _ _ (g .sound s .at-end noPlan (rw e) eb)
+    earned s (decision form (a ∷ more)) e true eb =
         let r = g .sound s .settles (a ∷ more) e (omega arith) eb in
         true-all _ (eq-eqb _ _ (r .priced), (solved-all cells _ (r .below), tt))

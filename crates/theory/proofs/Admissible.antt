@@ -28,7 +28,7 @@ module _ (p : Problem) (wf : WellFormed p) (cells : List Cell) (h : Consistent p
     where
       go : (n : Node) → nodeAt p s ≡ n → valueOf cells s ≤ bellmanCutAt (p .kind) (valueOf cells) n
       go (terminal cost) e = omega (arith, h .sound s .under-end cost (rw e), wf .capped s cost e)
-      go (decision acts) e =
+      go (decision form acts) e =
           least-above (q (p .kind) (valueOf cells)) acts (valueOf cells s) (h .sound s .small) (λ i l. h .sound s .under-q acts i e l)
 
   -- admissible
@@ -42,7 +42,7 @@ module _ (p : Problem) (wf : WellFormed p) (cells : List Cell) (h : Consistent p
           nodeAt p s ≡ n →
           bellmanCutAt (p .kind) (valueOf cells) n ≤ bellmanCutAt (p .kind) (λ t. amount (optimal p t)) n
       go s ih (terminal cost) e = omega arith
-      go s ih (decision acts) e =
+      go s ih (decision form acts) e =
           let v : ℕ → ℕ = λ t. amount (optimal p t) in
           least-above (q (p .kind) v) acts (least (q (p .kind) (valueOf cells)) acts) (least-small (q (p .kind) (valueOf cells)) acts)
           (λ i l. omega (
@@ -63,10 +63,10 @@ module _ (p : Problem) (wf : WellFormed p) (cells : List Cell) (h : Consistent p
           nodeAt p s ≡ n → valueOf cells s ≡ amount (policyCost p (written cells) s)
       go s ih e (terminal cost) node =
           rw (cost-terminal p wf (written cells) s cost node) (omega (arith, h .sound s .at-end cost (rw node) e, wf .capped s cost node))
-      go s ih e (decision []) node =
+      go s ih e (decision form []) node =
           rw (cost-solves p wf (written cells) s, node, le-ltb (cellOf cells s .chosen) 0 (omega arith))
           (h .sound s .at-end noPlan (rw node) e)
-      go s ih e (decision (a ∷ more)) node =
+      go s ih e (decision form (a ∷ more)) node =
           let g = h .sound s .settles (a ∷ more) node (omega arith) e in
           let i : ℕ = cellOf cells s .chosen in
           let b : Action = actionAt (a ∷ more) i in

@@ -4,7 +4,7 @@ use mathlib.Core.Path.{_≡_, refl, sym, ap, _∙_}
 use mathlib.Core.Option.{some}
 use mathlib.Core.List.{List}
 use native.Mathlib.Omega.{arith}
-use Rattle.model.specs.Problem.{Action, Node, terminal, decision, Problem, states, nodeAt, actionAt}
+use Rattle.model.specs.Problem.{Action, Form, Node, terminal, decision, Problem, states, nodeAt, actionAt}
 use Rattle.model.specs.Cost.{Cost, amount}
 use Rattle.model.specs.QValue.{q, qFull, leastCost}
 use Rattle.model.specs.Optimal.{solution, bellmanAt, bellman, bellmanCutAt, bellmanCut, optimal}
@@ -39,7 +39,7 @@ module _ (p : Problem) (wf : WellFormed p) where
     where
       go : (n : Node) → nodeAt p s ≡ n → bellmanAt (p .kind) v n ≡ bellmanAt (p .kind) v′ n
       go (terminal cost) e = refl
-      go (decision acts) e =
+      go (decision form acts) e =
           cost-same (qFull (p .kind) v) (qFull (p .kind) v′) acts
           (λ i l. qFull-same (p .kind) v v′ (actionAt acts i) (λ t m. let f = wf .forward s i t acts e m in h t (f .0) (f .1)))
 
@@ -55,7 +55,7 @@ module _ (p : Problem) (wf : WellFormed p) where
   unfolding bellmanAt
   optimal-terminal s cost e = optimal-solves s ∙ ap (bellmanAt (p .kind) (optimal p)) e
 
-  pub optimal-decision : (s : ℕ) (acts : List Action) → nodeAt p s ≡ decision acts →
+  pub optimal-decision : (s : ℕ) {form : Form} (acts : List Action) → nodeAt p s ≡ decision form acts →
       optimal p s ≡ leastCost (qFull (p .kind) (optimal p)) acts
   unfolding bellmanAt
   optimal-decision s acts e = optimal-solves s ∙ ap (bellmanAt (p .kind) (optimal p)) e
@@ -67,7 +67,7 @@ module _ (p : Problem) (wf : WellFormed p) where
     where
       go : (n : Node) → nodeAt p s ≡ n → amount (optimal p s) ≡ bellmanCutAt (p .kind) (λ t. amount (optimal p t)) n
       go (terminal cost) e = ap amount (optimal-terminal s cost e)
-      go (decision acts) e =
+      go (decision form acts) e =
           let f : Action → Cost = qFull (p .kind) (optimal p) in
           ap amount (optimal-decision s acts e) ∙ cost-amount f acts ∙
           least-same (λ a. amount (f a)) (q (p .kind) (λ t. amount (optimal p t))) acts

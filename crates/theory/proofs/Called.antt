@@ -108,8 +108,8 @@ module _ (s : List ℕ) (p : Problem) (cells : List Cell) (h : Stands s p cells)
       go : (n : Node) → nodeAt p t ≡ n → (b : Bool) → solved (cellOf cells′ t) ≡ b → cellOf cells′ t .chosen < 256
       go n e false o = omega (arith, g .sound t .unchosen o)
       go (terminal cost) e true o = omega (arith, g .sound t .endless cost (rw e))
-      go (decision []) e true o = omega (arith, g .sound t .endless noPlan (rw e))
-      go (decision (a ∷ more)) e true o =
+      go (decision form []) e true o = omega (arith, g .sound t .endless noPlan (rw e))
+      go (decision form (a ∷ more)) e true o =
           let few = subst NodeShaped e (node-shaped (p .nodes) (h .asked .shaped .nodes) t) .0 in
           omega (arith, g .sound t .settles (a ∷ more) e (omega arith) o .exists, few)
 

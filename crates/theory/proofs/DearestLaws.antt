@@ -9,7 +9,7 @@ use native.Mathlib.Omega.{arith}
 use borrow.Author.Tests.{ltb-true, ltb-false}
 use lib.Dec.{ltb}
 use lib.ListN.{length}
-use Rattle.model.specs.Problem.{worst, Action, decision, Problem, nodeAt, actionAt, _∈_, here, there}
+use Rattle.model.specs.Problem.{worst, Action, Form, decision, Problem, nodeAt, actionAt, _∈_, here, there}
 use Rattle.model.specs.Limits.{ceiling, noPlan}
 use Rattle.model.specs.Cost.{Cost, cut, amount, costOf, both, _⊑_}
 use Rattle.model.specs.QValue.{join, joined, q, dearestFrom, dearest, Dearest}
@@ -107,7 +107,7 @@ dearest-costs v a {t} {x} h priced low = go (lt-or-le ceiling (v t))
     go (inr within) = let cut-is : x ≡ cut (a .cost + v t) = rw (cost-within (v t) within) at is in omega arith
 
 -- so it is for every action of a well-formed problem, by any values
-pub action-dearest : (p : Problem) → WellFormed p → (s i : ℕ) (acts : List Action) → nodeAt p s ≡ decision acts →
+pub action-dearest : (p : Problem) → WellFormed p → (s i : ℕ) {form : Form} (acts : List Action) → nodeAt p s ≡ decision form acts →
     i < length acts →
     (v : ℕ → ℕ) → Dearest v (actionAt acts i .successors) (dearest v (actionAt acts i .successors))
 action-dearest p wf s i acts e l v = let (has, up) = wf .ordered s i acts e l in dearest-is v (actionAt acts i .successors) has up

@@ -1,35 +1,37 @@
 -- Not vacuous: sheet A, by its literal bytes, is accepted, and a list of calls on it, two of them refused, ends settled at 500; sheets C
 -- and D show what a looser order of findings keeps and what a repeat costs; on sheet H, where no check leads to an ending, calls end none,
--- and on sheet G, where one does, settled.
+-- and on sheet G, where one does, settled; sheet J, with a counted junction, is accepted, and refused once that has lost a check.
 use Prim.Native.Nat.{ℕ, _+_, _<_, _≤_}
 use mathlib.Core.Path.{_≡_, refl}
 use mathlib.Core.Bool.{true}
 use mathlib.Core.Option.{none as noCost, some}
 use mathlib.Core.Logic.{_⊎_, inl, inr}
-use mathlib.Core.List.{List, [], _∷_, map}
+use mathlib.Core.List.{List, [], _∷_, _++_, map}
 use native.Mathlib.Omega.{arith}
 use borrow.Author.Tests.{ltb-true}
 use lib.Dec.{lit<, lit≤, ltb}
-use lib.ListN.{length, getD, List·getD-eq-default}
+use lib.ListN.{length, getD, take, drop, List·getD-eq-default}
 use Rattle.model.proofs.TestLaws.{every-true}
 use Rattle.model.specs.Tests.{every}
 use Rattle.model.specs.Problem.{worst, action, valueOf}
 use Rattle.model.specs.Limits.{maxStates}
-use Rattle.model.specs.Format.{Bytes}
+use Rattle.model.specs.Format.{Bytes, actionsOf, formOf, actionPlace, nodePlace, offset, actionOffset}
 use Rattle.model.specs.Read.{problemOf, cellsOf}
 use Rattle.model.specs.Cost.{amount, both, times}
 use Rattle.model.specs.Questions.{refusal, refusalUnder}
-use Rattle.model.specs.Earlier.{strictRefusal, checkedRefusal}
+use Rattle.model.specs.Earlier.{strictRefusal, checkedRefusal, plainRefusal}
 use Rattle.model.specs.Optimal.{optimal}
 use Rattle.model.proofs.Computing.{computing}
 use Rattle.model.specs.Report.{bytesAfter, largest}
 use Rattle.model.specs.Calls.{Call, callOn, Calls, none, one, left}
 use Rattle.model.specs.Demands.{Accepted, startCost, Best, NoPlan, NoneAt, Demand3, Raised, Loosened, Withdrawn}
-use Rattle.model.specs.Rows.{sheetA, sheetC, sheetD, sheetG, sheetH}
+use Rattle.model.specs.Demands.{FormAdded, withoutCheck}
+use Rattle.model.specs.Rows.{sheetA, sheetC, sheetD, sheetG, sheetH, sheetJ}
 use Rattle.theory.proofs.Basics.{lt-or-le}
 use Rattle.theory.proofs.Limits.{accepted-before, limit-raised}
 use Rattle.theory.proofs.Loosened.{order-loosened}
 use Rattle.theory.proofs.Withdrawn.{checks-withdrawn}
+use Rattle.theory.proofs.Counted.{form-added, loss-refused}
 use Rattle.theory.proofs.Promises.{settled-pays}
 use Rattle.theory.proofs.Demands.{demand2, demand3}
 
@@ -127,6 +129,29 @@ then-H = (refl, refl)
 pub withdrawn-A : Withdrawn maxStates sheetA
 unfolding computing
 withdrawn-A = checks-withdrawn maxStates (omega arith) sheetA (tested sheetA refl) refl
+
+-- Sheet J was refused when every junction was plain; sheet A was accepted then, and keeps what it had. J without the field of check 1 of
+-- junction 0, nine bytes at 29, is refused 10.
+pub plain-J : (plainRefusal maxStates (sheetJ 2) maxStates largest ≡ 4) × (refusal (sheetJ 2) maxStates largest ≡ 0)
+unfolding computing
+plain-J = (refl, refl)
+
+pub added-A : FormAdded maxStates sheetA
+unfolding computing
+added-A = form-added maxStates sheetA (λ _. refl) (omega arith) (tested sheetA refl)
+
+pub accepted-J : Accepted (sheetJ 2)
+unfolding computing
+accepted-J = record { bytes = tested (sheetJ 2) refl; yes = refl }
+
+pub less-J : withoutCheck (sheetJ 2) 0 1 ≡ take 29 (sheetJ 2) ++ drop 38 (sheetJ 2)
+unfolding computing actionsOf formOf actionPlace nodePlace offset actionOffset
+less-J = refl
+
+pub loss-J : refusal (withoutCheck (sheetJ 2) 0 1) maxStates largest ≡ 10
+unfolding computing
+loss-J =
+    loss-refused (sheetJ 2) accepted-J 0 1 2 (action 200 (1 ∷ 3 ∷ []) ∷ action 500 (3 ∷ []) ∷ []) refl (lit< tt) maxStates largest (omega arith)
 
 -- A limit of 4 accepts sheet A, which has as many stages, and one of 3 refuses it; so a raised limit speaks of it
 pub limits-A : (refusalUnder 3 sheetA 3 largest ≡ 3) × (refusalUnder 4 sheetA 4 largest ≡ 0)

@@ -7,7 +7,7 @@ use mathlib.Core.List.{List, [], _∷_}
 use native.Mathlib.Omega.{arith}
 use borrow.Author.Tests.{lt-ltb, le-ltb}
 use lib.Seq.{set-getD}
-use Rattle.model.specs.Problem.{Action, Node, terminal, decision, Problem, cell, nodeAt, _∈_, here, there}
+use Rattle.model.specs.Problem.{Action, Form, Node, terminal, decision, Problem, cell, nodeAt, _∈_, here, there}
 use Rattle.model.specs.Limits.{noPlan}
 use Rattle.model.specs.Ldfs.{Search, Visit, success, halt, valueAt, solvedAt, priceAt, onTest, onVisit, stored, marked}
 use Rattle.model.specs.Ldfs.{update, ifDear, visitAll, finish, visitOpen, visit}
@@ -32,8 +32,8 @@ pub open-end : (p : Problem) (budget : ℕ) (v : ℕ → Search → Visit) (s x 
     visitOpen p budget v s node w ≡ finish budget s x w
 unfolding visitOpenBy
 open-end p budget v s x w (terminal cost) e = let same : cost ≡ x = cc in rw same
-open-end p budget v s x w (decision []) e = let same : noPlan ≡ x = cc in rw same
-open-end p budget v s x w (decision (a ∷ more)) e = not-some refl e
+open-end p budget v s x w (decision form []) e = let same : noPlan ≡ x = cc in rw same
+open-end p budget v s x w (decision form (a ∷ more)) e = not-some refl e
 
 module _ (p : Problem) (budget n s : ℕ) (w : Search) (isOpen : solvedAt w s ≡ false) where
   -- whatever is left of the budget, a state that ends by itself and has that value is marked
@@ -51,7 +51,7 @@ module _ (p : Problem) (budget n s : ℕ) (w : Search) (isOpen : solvedAt w s �
   all-pass a le (t ∷ ts) h = rw (h t here, le-ltb (valueAt w s) (priceAt p w a) le) (all-pass a le ts (λ u m. h u (there m)))
 
   -- and so is a decision whose first action has its price for a value and its successors solved
-  pub decision-marked : (a : Action) (more : List Action) → nodeAt p s ≡ decision (a ∷ more) → priceAt p w a ≤ valueAt w s →
+  pub decision-marked : {form : Form} (a : Action) (more : List Action) → nodeAt p s ≡ decision form (a ∷ more) → priceAt p w a ≤ valueAt w s →
       ((t : ℕ) → t ∈ a .successors → solvedAt w t ≡ true) → visit p budget (suc (suc n)) s w ≡ success (marked s 0 w)
   unfolding visitBy visitOpenBy tryAllBy tryOneBy ifDearBy onTest onVisit
   decision-marked a more node le below = rw (isOpen, node, le-ltb (valueAt w s) (priceAt p w a) le, all-pass a le (a .successors) below)

@@ -8,7 +8,7 @@ use mathlib.Core.List.{List}
 use native.Mathlib.Omega.{arith}
 use lib.ListN.{length, set, length-set}
 use lib.Seq.{getD-set-same, getD-set-other}
-use Rattle.model.specs.Problem.{Action, decision, Problem, Cell, cell, states, nodeAt, actionAt, cellOf, valueOf, solved}
+use Rattle.model.specs.Problem.{Action, Form, decision, Problem, Cell, cell, states, nodeAt, actionAt, cellOf, valueOf, solved}
 use Rattle.model.specs.Limits.{noPlan}
 use Rattle.model.specs.QValue.{q}
 use Rattle.model.specs.Ldfs.{Search, cellAt, valueAt, solvedAt, raised, marked}
@@ -155,7 +155,7 @@ module _ (p : Problem) (budget s r : ℕ) (w : Search) (c : Cell) (ready : Ready
 pub record Fits (p : Problem) (cells : List Cell) (s x : ℕ) : Type 0 where
   pub small : x ≤ noPlan
   pub under-end : (y : ℕ) → endOf (nodeAt p s) ≡ some y → x ≤ y
-  pub under-q : (acts : List Action) (i : ℕ) → nodeAt p s ≡ decision acts → i < length acts →
+  pub under-q : {form : Form} (acts : List Action) (i : ℕ) → nodeAt p s ≡ decision form acts → i < length acts →
       x ≤ q (p .kind) (valueOf cells) (actionAt acts i)
 
 module _ (p : Problem) (budget s x : ℕ) (w : Search) (ready : Ready p budget w) (state : s < states p) where
@@ -192,7 +192,7 @@ module _ (p : Problem) (budget s x : ℕ) (w : Search) (ready : Ready p budget w
 -- a state that may be marked, with action i chosen
 pub record Done (p : Problem) (w : Search) (s i : ℕ) : Type 0 where
   pub at-end : (y : ℕ) → endOf (nodeAt p s) ≡ some y → (i ≡ 0) × (valueAt w s ≡ y)
-  pub passed : (acts : List Action) → nodeAt p s ≡ decision acts → 0 < length acts → Settles p (w .cells) s i acts
+  pub passed : {form : Form} (acts : List Action) → nodeAt p s ≡ decision form acts → 0 < length acts → Settles p (w .cells) s i acts
 
 module _ (p : Problem) (budget s i : ℕ) (w : Search) (ready : Ready p budget w) (state : s < states p) (isOpen : solvedAt w s ≡ false)
     (done : Done p w s i) where

@@ -21,6 +21,8 @@ pub mod Called
 pub mod Outcomes
 pub mod Promises
 pub mod Withdrawn
+pub mod Counted
+pub mod FirstVersion
 pub mod Demands
 pub mod Example
 pub mod Turns

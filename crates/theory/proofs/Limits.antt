@@ -76,7 +76,7 @@ module _ (a b : ℕ) (s : List ℕ) (three : question3 a s ≡ question3 b s) wh
 pub limit-raised : {small large : ℕ} → small ≤ large → (s : List ℕ) → acceptedUnder small s ≡ true → Raised small large s
 limit-raised {small} {large} le s acc =
     let yes = accepted-yes small s acc in
-    let three : question3 small s ≡ question3 large s = yes .1 .0 ∙ sym (head-raised le s (yes .1 .0)) in
+    let three : question3 small s ≡ question3 large s = yes .three ∙ sym (head-raised le s (yes .three)) in
     record {
       still-accepted = yes-accepted large s (sheet-raised le s yes);
       same-answer = answer-same small large s three;

@@ -29,7 +29,7 @@ module _ (d e n : ℕ) (le : e ≤ d) where
   successors-looser : (s : ℕ) (node : Node) → successorsInOrder d n s node ≡ true → successorsInOrder e n s node ≡ true
   unfolding successorsInOrder
   successors-looser s (terminal cost) h = refl
-  successors-looser s (decision acts) h =
+  successors-looser s (decision form acts) h =
       true-every _ _ (λ i l. ascending-looser (s + 1) (s + 1) _ (omega arith) (every-true _ _ h i l))
 
 apart-few : (k : Kind) → apart k ≤ 1
@@ -54,10 +54,10 @@ module _ (limit : ℕ) (s : List ℕ) (six : inOrder 1 (problemOf s) ≡ true) w
   same-refusal entries budget = rw (six, strict-in-order (problemOf s) six)
 
 module _ (limit : ℕ) (s : List ℕ) (acc : strictlyAccepted limit s ≡ true) where
-  -- question 6 is the fifth of those about the sheet alone
+  -- question 6 is the sixth of those about the sheet alone
   pub strict-six : inOrder 1 (problemOf s) ≡ true
   unfolding strictlyAccepted instead
-  strict-six = none-no (instead (strictOrder s) (sheetQuestionsUnder limit s)) refl (eqb-true _ _ acc) .1 .1 .1 .1 .0
+  strict-six = none-no (instead (strictOrder s) (sheetQuestionsUnder limit s)) refl (eqb-true _ _ acc) .1 .1 .1 .1 .1 .0
 
   -- whatever was accepted then is accepted, with the same answer, bytes and table
   pub order-loosened : Loosened limit s

@@ -8,7 +8,7 @@ use native.Mathlib.Omega.{arith}
 use borrow.Author.Tests.{ltb-false}
 use lib.Dec.{ltb}
 use lib.ListN.{length}
-use Rattle.model.specs.Problem.{worst, Action, Node, terminal, decision, Problem, Cell, states, nodeAt, actionAt, valueOf}
+use Rattle.model.specs.Problem.{worst, Action, Form, Node, terminal, decision, Problem, Cell, states, nodeAt, actionAt, valueOf}
 use Rattle.model.specs.Problem.{_∈_, here, there}
 use Rattle.model.specs.Limits.{ceiling}
 use Rattle.model.specs.QValue.{join}
@@ -81,7 +81,7 @@ module _ (p : Problem) (wf : WellFormed p) (checked : Checked p) where
           go (failure w′) x ih = refl
           go (halt w′) x ih = refl
 
-      module _ (acts : List Action) (node : nodeAt p s ≡ decision acts) where
+      module _ {form : Form} (acts : List Action) (node : nodeAt p s ≡ decision form acts) where
         one-same : (i : ℕ) (next next′ : Search → Visit) (w : Search) → Ready p budget w →
             priceAt p w (actionAt acts i) ≤ valueAt w s → ((w′ : Search) → Ready p budget w′ → next′ w′ ≡ next w′) →
             tryOneBy numberPrice p budget v′ s acts i next′ w ≡ tryOne p budget v s acts i next w
@@ -116,8 +116,8 @@ module _ (p : Problem) (wf : WellFormed p) (checked : Checked p) where
           visitOpenBy numberPrice p budget v′ s node w ≡ visitOpen p budget v s node w
       unfolding visitOpenBy
       open-same (terminal cost) e w ready = refl
-      open-same (decision []) e w ready = refl
-      open-same (decision (a ∷ more)) e w ready = try-same (a ∷ more) e (length (a ∷ more)) 0 w ready
+      open-same (decision form []) e w ready = refl
+      open-same (decision form (a ∷ more)) e w ready = try-same (a ∷ more) e (length (a ∷ more)) 0 w ready
 
     visit-same : (k s : ℕ) (w : Search) → states p ≤ s + k → s < states p → Ready p budget w →
         visitBy numberPrice p budget k s w ≡ visit p budget k s w

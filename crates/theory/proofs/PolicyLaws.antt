@@ -10,7 +10,7 @@ use borrow.Author.Tests.{lt-ltb, ltb-true}
 use lib.Dec.{ltb}
 use lib.ListN.{length}
 use Rattle.model.specs.Tests.{fork}
-use Rattle.model.specs.Problem.{Kind, Action, Node, terminal, decision, Problem, states, nodeAt, actionAt, _∈_}
+use Rattle.model.specs.Problem.{Kind, Action, Form, Node, terminal, decision, Problem, states, nodeAt, actionAt, _∈_}
 use Rattle.model.specs.Cost.{Cost, _⊑_}
 use Rattle.model.specs.QValue.{qFull, leastCost}
 use Rattle.model.specs.Optimal.{bellmanAt, optimal}
@@ -21,16 +21,16 @@ use Rattle.theory.proofs.CostLaws.{at-most-then, at-most-some, not-some
 use Rattle.theory.proofs.QValueLaws.{qFull-same, qFull-mono, qFull-part, qFull-some, Attains, cost-below, cost-attains}
 use Rattle.theory.proofs.Bellman.{Local, solves, optimal-solves, optimal-terminal, optimal-decision}
 
-closed-next : {p : Problem} {π : Policy} {s : ℕ} (acts : List Action) (i t : ℕ) → Closed p π s →
-    nodeAt p s ≡ decision acts → π s ≡ some i → t ∈ actionAt acts i .successors → Closed p π t
-closed-next acts i t closed e c m u acts′ r = closed u acts′ (onward e c m r)
+closed-next : {p : Problem} {π : Policy} {s : ℕ} {form : Form} (acts : List Action) (i t : ℕ) → Closed p π s →
+    nodeAt p s ≡ decision form acts → π s ≡ some i → t ∈ actionAt acts i .successors → Closed p π t
+closed-next acts i t closed e c m u form′ acts′ r = closed u form′ acts′ (onward e c m r)
 
 -- a junction that costs some number is covered, by an action that exists and costs that
-covered : (k : Kind) (v : ℕ → Cost) (acts : List Action) (o : Option ℕ) (x : ℕ) → costAt k v (decision acts) o ≡ some x →
+covered : (k : Kind) (v : ℕ → Cost) (form : Form) (acts : List Action) (o : Option ℕ) (x : ℕ) → costAt k v (decision form acts) o ≡ some x →
     (i : ℕ) × (o ≡ some i) × (i < length acts) × (qFull k v (actionAt acts i) ≡ some x)
 unfolding costAt
-covered k v acts none x h = not-some refl h
-covered k v acts (some i) x h = go (ltb i (length acts)) refl h
+covered k v form acts none x h = not-some refl h
+covered k v form acts (some i) x h = go (ltb i (length acts)) refl h
   where
     go : (b : Bool) → ltb i (length acts) ≡ b → fork b (λ _. qFull k v (actionAt acts i)) (λ _. none) ≡ some x →
         (j : ℕ) × (_≡_ {A = Option ℕ} (some i) (some j)) × (j < length acts) × (qFull k v (actionAt acts j) ≡ some x)
@@ -44,8 +44,8 @@ module _ (p : Problem) (wf : WellFormed p) (π : Policy) where
     where
       go : (n : Node) → nodeAt p s ≡ n → (o : Option ℕ) → costAt (p .kind) v n o ≡ costAt (p .kind) v′ n o
       go (terminal cost) e o = refl
-      go (decision acts) e none = refl
-      go (decision acts) e (some i) =
+      go (decision form acts) e none = refl
+      go (decision form acts) e (some i) =
           rw (qFull-same (p .kind) v v′ (actionAt acts i) (λ t m. let f = wf .forward s i t acts e m in h t (f .0) (f .1)))
 
   pub cost-solves : (s : ℕ) → policyCost p π s ≡ costAt (p .kind) (policyCost p π) (nodeAt p s) (π s)
@@ -56,7 +56,7 @@ module _ (p : Problem) (wf : WellFormed p) (π : Policy) where
   unfolding costAt
   cost-terminal s cost e = cost-solves s ∙ ap (λ (n : Node). costAt (p .kind) (policyCost p π) n (π s)) e
 
-  pub cost-decision : (s i : ℕ) (acts : List Action) → nodeAt p s ≡ decision acts → π s ≡ some i → i < length acts →
+  pub cost-decision : (s i : ℕ) {form : Form} (acts : List Action) → nodeAt p s ≡ decision form acts → π s ≡ some i → i < length acts →
       policyCost p π s ≡ qFull (p .kind) (policyCost p π) (actionAt acts i)
   unfolding costAt
   cost-decision s i acts e c l = cost-solves s ∙ (rw (e, c, lt-ltb i (length acts) l) refl)
@@ -70,30 +70,30 @@ module _ (p : Problem) (wf : WellFormed p) (π : Policy) where
       go : (s : ℕ) → ((t : ℕ) → s < t → t < states p → Closed p π t → (x : ℕ) × (policyCost p π t ≡ some x)) →
           Closed p π s → (n : Node) → nodeAt p s ≡ n → (x : ℕ) × (policyCost p π s ≡ some x)
       go s ih closed (terminal cost) e = (cost, cost-terminal s cost e)
-      go s ih closed (decision acts) e =
-          let r = closed s acts arrived e in
+      go s ih closed (decision form acts) e =
+          let r = closed s form acts arrived e in
           let z = qFull-some (p .kind) (policyCost p π) (actionAt acts (r .0))
           (λ t m. let f = wf .forward s (r .0) t acts e m in ih t (f .0) (f .1) (closed-next acts (r .0) t closed e (r .1) m)) in
           (z .0, cost-decision s (r .0) acts e (r .1) (r .2) ∙ z .1)
 
   -- and one that costs some number is closed
-  at-junction : (s : ℕ) (acts : List Action) (x : ℕ) → nodeAt p s ≡ decision acts → policyCost p π s ≡ some x →
+  at-junction : (s : ℕ) {form : Form} (acts : List Action) (x : ℕ) → nodeAt p s ≡ decision form acts → policyCost p π s ≡ some x →
       (i : ℕ) × (π s ≡ some i) × (i < length acts) × (qFull (p .kind) (policyCost p π) (actionAt acts i) ≡ some x)
-  at-junction s acts x e h =
-      covered (p .kind) (policyCost p π) acts (π s) x
+  at-junction s {form} acts x e h =
+      covered (p .kind) (policyCost p π) form acts (π s) x
       (ap (λ (n : Node). costAt (p .kind) (policyCost p π) n (π s)) (sym e) ∙ sym (cost-solves s) ∙ h)
 
   reached-costs : {s t : ℕ} → Reach p π s t → (x : ℕ) → policyCost p π s ≡ some x →
       (y : ℕ) × (policyCost p π t ≡ some y)
   reached-costs arrived x h = (x, h)
-  reached-costs (onward {s} {u} {t} {i} {acts} node chosen m r) x h =
+  reached-costs (onward {s} {u} {t} {i} {form} {acts} node chosen m r) x h =
       let a = at-junction s acts x node h in
       let same : i ≡ a .0 = cc in
       let y = qFull-part (p .kind) (policyCost p π) (actionAt acts (a .0)) x (a .3) u (rw same at m) in
       reached-costs r (y .0) (y .1)
 
   pub costs-closed : (s x : ℕ) → policyCost p π s ≡ some x → Closed p π s
-  costs-closed s x h t acts r node =
+  costs-closed s x h t form acts r node =
       let y = reached-costs r x h in
       let a = at-junction t acts (y .0) node (y .1) in
       (a .0, a .1, a .2)
@@ -109,8 +109,8 @@ module _ (p : Problem) (wf : WellFormed p) (π : Policy) where
           nodeAt p s ≡ n → (o : Option ℕ) →
           bellmanAt (p .kind) (optimal p) n ⊑ costAt (p .kind) (policyCost p π) n o
       go s ih (terminal cost) e o = omega arith
-      go s ih (decision acts) e none = tt
-      go s ih (decision acts) e (some i) = by-number (ltb i (length acts)) refl
+      go s ih (decision form acts) e none = tt
+      go s ih (decision form acts) e (some i) = by-number (ltb i (length acts)) refl
         where
           paid : Cost
           paid = qFull (p .kind) (policyCost p π) (actionAt acts i)
@@ -138,7 +138,7 @@ module _ (p : Problem) where
 
   abbrev choose : Node → Option ℕ
   choose (terminal cost) = none
-  choose (decision acts) = chosenOf acts (cost-attains byOptimal acts)
+  choose (decision form acts) = chosenOf acts (cost-attains byOptimal acts)
 
   pub greedy : Policy
   greedy s = choose (nodeAt p s)
@@ -154,10 +154,10 @@ module _ (p : Problem) (wf : WellFormed p) where
           nodeAt p s ≡ n →
           costAt (p .kind) (policyCost p (greedy p)) n (choose p n) ≡ bellmanAt (p .kind) (optimal p) n
       go s ih (terminal cost) e = refl
-      go s ih (decision acts) e = by-choice (cost-attains (byOptimal p) acts)
+      go s ih (decision form acts) e = by-choice (cost-attains (byOptimal p) acts)
         where
           by-choice : (c : Least p acts) →
-              costAt (p .kind) (policyCost p (greedy p)) (decision acts) (chosenOf p acts c) ≡ leastCost (byOptimal p) acts
+              costAt (p .kind) (policyCost p (greedy p)) (decision form acts) (chosenOf p acts c) ≡ leastCost (byOptimal p) acts
           by-choice (inl z) = sym z
           by-choice (inr r) =
               let same = qFull-same (p .kind) (policyCost p (greedy p)) (optimal p) (actionAt acts (r .0))
@@ -171,10 +171,10 @@ module _ (p : Problem) (wf : WellFormed p) where
       go : (s : ℕ) → ((t : ℕ) → s < t → t < states p → (x : ℕ) × (optimal p t ≡ some x)) → (n : Node) →
           nodeAt p s ≡ n → (x : ℕ) × (optimal p s ≡ some x)
       go s ih (terminal cost) e = (cost, optimal-terminal p wf s cost e)
-      go s ih (decision acts) e =
+      go s ih (decision form acts) e =
           let f = byOptimal p in
           let z = qFull-some (p .kind) (optimal p) (actionAt acts 0) (λ t m. let g = wf .forward s 0 t acts e m in ih t (g .0) (g .1)) in
-          let r = at-most-some (leastCost f acts) (z .0) (rw (z .1) at (cost-below f acts 0 (has s acts e))) in
+          let r = at-most-some (leastCost f acts) (z .0) (rw (z .1) at (cost-below f acts 0 (has s form acts e))) in
           (r .0, optimal-decision p wf s acts e ∙ r .1)
 
   -- S2.6: where V* is some number, a closed policy costs that; where it is none, no policy is closed, and only there

@@ -6,7 +6,7 @@ use mathlib.Core.Option.{none, some}
 use mathlib.Core.List.{List}
 use native.Mathlib.Omega.{arith}
 use lib.ListN.{length, replicate}
-use Rattle.model.specs.Problem.{whole, Action, decision, Problem, Cell, states, nodeAt, actionAt, cellOf, valueOf, solved}
+use Rattle.model.specs.Problem.{whole, Action, Form, decision, Problem, Cell, states, nodeAt, actionAt, cellOf, valueOf, solved}
 use Rattle.model.specs.Format.{Bytes}
 use Rattle.model.specs.Read.{problemOf, cellsOf}
 use Rattle.model.specs.Limits.{maxStates, ceiling, noPlan, manyRaises}
@@ -110,7 +110,7 @@ module _ (s : List ℕ) (acc : Accepted s) where
   solved-written = solved-cost (problemOf s) wf (cellsOf s) (cells-of stands)
 
   -- 4: the dearest successor of an action, by any values, is the lowest-numbered of those whose value is largest, and no other number is
-  pub dearest-of : (t i : ℕ) (acts : List Action) → nodeAt (problemOf s) t ≡ decision acts → i < length acts →
+  pub dearest-of : (t i : ℕ) {form : Form} (acts : List Action) → nodeAt (problemOf s) t ≡ decision form acts → i < length acts →
       (v : ℕ → ℕ) →
       Dearest v (actionAt acts i .successors) (dearest v (actionAt acts i .successors))
       × ((u : ℕ) → Dearest v (actionAt acts i .successors) u → u ≡ dearest v (actionAt acts i .successors))
@@ -120,7 +120,7 @@ module _ (s : List ℕ) (acc : Accepted s) where
   -- 5: S2.10, where the sheet is whole and action i of decision t lists the state u n times, once or more, and no other: it costs its
   -- cost plus n times what u costs, by V* and by any costs, and none where that is none; that is its price, up to the ceiling; a policy
   -- that takes it costs so much; and where the decision is solved by it, that is the decision's value, by V* and as written
-  module _ (is : problemOf s .kind ≡ whole) (t i n u : ℕ) (acts : List Action) (node : nodeAt (problemOf s) t ≡ decision acts)
+  module _ (is : problemOf s .kind ≡ whole) (t i n u : ℕ) {form : Form} (acts : List Action) (node : nodeAt (problemOf s) t ≡ decision form acts)
       (exists : i < length acts) (often : 0 < n) (only : actionAt acts i .successors ≡ replicate n u) where
     pub check-pays : (v : ℕ → Cost) →
         qFull (problemOf s .kind) v (actionAt acts i) ≡ both _+_ (some (actionAt acts i .cost)) (times n (v u))

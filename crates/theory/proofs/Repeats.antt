@@ -7,7 +7,7 @@ use mathlib.Core.List.{List, [], _∷_, _++_}
 use native.Mathlib.Omega.{arith}
 use native.Mathlib.Nat.{mul-le-mul-right}
 use lib.ListN.{length, replicate}
-use Rattle.model.specs.Problem.{Kind, whole, Action, decision, Problem, Cell, nodeAt, actionAt, cellOf, valueOf, solved, _∈_}
+use Rattle.model.specs.Problem.{Kind, whole, Action, Form, decision, Problem, Cell, nodeAt, actionAt, cellOf, valueOf, solved, _∈_}
 use Rattle.model.specs.Limits.{ceiling}
 use Rattle.model.specs.Cost.{Cost, amount, costOf, both, times}
 use Rattle.model.specs.QValue.{join, joined, qFull, q}
@@ -81,8 +81,8 @@ module _ (k : Kind) (is : k ≡ whole) (a : Action) (n t : ℕ) (often : 0 < n) 
       ap amount (only-counts (λ u. costOf (v u))) ∙ (rw (cost-within (v t) small) (amount-some (a .cost + n * v t) fits))
 
 -- Action i of decision s of a whole problem lists the state t n times and no other.
-module _ (p : Problem) (wf : WellFormed p) (is : p .kind ≡ whole) (s i n t : ℕ) (acts : List Action)
-    (node : nodeAt p s ≡ decision acts) (often : 0 < n) (only : actionAt acts i .successors ≡ replicate n t) where
+module _ (p : Problem) (wf : WellFormed p) (is : p .kind ≡ whole) (s i n t : ℕ) {form : Form}
+    (acts : List Action) (node : nodeAt p s ≡ decision form acts) (often : 0 < n) (only : actionAt acts i .successors ≡ replicate n t) where
   -- a policy that takes it pays for each
   pub policy-pays : (π : Policy) → π s ≡ some i → i < length acts →
       policyCost p π s ≡ both _+_ (some (actionAt acts i .cost)) (times n (policyCost p π t))

@@ -8,7 +8,7 @@ use native.Mathlib.Omega.{arith}
 use borrow.Author.Tests.{lt-ltb, le-ltb}
 use lib.ListN.{length, getD, drop}
 use lib.Seq.{drop-cons, drop-length}
-use Rattle.model.specs.Problem.{Action, Node, terminal, decision, Problem, states, nodeAt, actionAt, _∈_, here, there}
+use Rattle.model.specs.Problem.{Action, Form, Node, terminal, decision, Problem, states, nodeAt, actionAt, _∈_, here, there}
 use Rattle.model.specs.QValue.{least}
 use Rattle.model.specs.Ldfs.{Search, Visit, success, failure, halt, valueAt, solvedAt, priceAt, onTest, onVisit, stored}
 use Rattle.model.specs.Ldfs.{raised, marked, update, visitAll, tryOne, tryAll, finish, visitOpen, visit, Passes, onPass}
@@ -150,8 +150,8 @@ module _ (p : Problem) (budget : ℕ) where
         (n : Node) → nodeAt p s ≡ n → (w : Search) → visitOpen p budget v s n w ≡ visitOpen p budget v′ s n w
     unfolding visitOpenBy
     visitOpen-same v v′ s h (terminal cost) e w = refl
-    visitOpen-same v v′ s h (decision []) e w = refl
-    visitOpen-same v v′ s h (decision (a ∷ more)) e w =
+    visitOpen-same v v′ s h (decision form []) e w = refl
+    visitOpen-same v v′ s h (decision form (a ∷ more)) e w =
         let acts : List Action = a ∷ more in
         tryAll-same v v′ s acts (λ i t w′ m. let f = wf .forward s i t acts e m in h t w′ (f .0) (f .1)) (length acts) 0 w
 
@@ -183,7 +183,7 @@ module _ (p : Problem) (budget : ℕ) where
       unfolding onTest
       visit-end x e ends = unfolded ∙ (rw e (open-end p budget visitTo s x w (nodeAt p s) ends))
 
-      pub visit-decision : (acts : List Action) → 0 < length acts → solvedAt w s ≡ false → nodeAt p s ≡ decision acts →
+      pub visit-decision : {form : Form} (acts : List Action) → 0 < length acts → solvedAt w s ≡ false → nodeAt p s ≡ decision form acts →
           visitTo s w ≡ actionsFrom p budget visitTo s acts 0 w
       unfolding visitOpenBy onTest
       visit-decision [] has e n = absurd (omega arith)

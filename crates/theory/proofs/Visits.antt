@@ -9,7 +9,7 @@ use native.Mathlib.Omega.{arith}
 use borrow.Author.Tests.{ltb-true, ltb-false}
 use lib.Dec.{ltb}
 use lib.ListN.{length}
-use Rattle.model.specs.Problem.{Action, Node, terminal, decision, Problem, states, nodeAt, actionAt, _∈_, here, there}
+use Rattle.model.specs.Problem.{Action, Form, Node, terminal, decision, Problem, states, nodeAt, actionAt, _∈_, here, there}
 use Rattle.model.specs.Limits.{noPlan}
 use Rattle.model.specs.QValue.{least}
 use Rattle.model.specs.Ldfs.{Search, Visit, success, failure, halt, valueAt, solvedAt, priceAt, onTest, onVisit, raised}
@@ -79,9 +79,9 @@ later r lead (failure w″) y = (then lead (y .0), y .1)
 later r lead (halt w″) y = (then lead (y .0), y .1, y .2)
 
 -- a decision that ends by itself has no action, and ends at none
-barren : (acts : List Action) (x : ℕ) → endOf (decision acts) ≡ some x → (length acts ≡ 0) × (x ≡ noPlan)
-barren [] x e = (refl, (cc))
-barren (a ∷ more) x e = not-some refl e
+barren : (form : Form) (acts : List Action) (x : ℕ) → endOf (decision form acts) ≡ some x → (length acts ≡ 0) × (x ≡ noPlan)
+barren form [] x e = (refl, (cc))
+barren form (a ∷ more) x e = not-some refl e
 
 module _ (p : Problem) (wf : WellFormed p) (budget : ℕ) where
   -- a way of visiting the states above s that keeps the promise
@@ -121,8 +121,8 @@ module _ (p : Problem) (wf : WellFormed p) (budget : ℕ) where
       let same : x ≡ valueAt w s = omega (arith, ltb-false (valueAt w s) x e) in
       subst (λ (u : Search). Visited p budget s r w (next u)) (sym (store-same s x w same)) (onSame same))
 
-  module _ (v : ℕ → Search → Visit) (s : ℕ) (does : Visits s v) (state : s < states p) (acts : List Action)
-      (node : nodeAt p s ≡ decision acts) (has : 0 < length acts) where
+  module _ (v : ℕ → Search → Visit) (s : ℕ) (does : Visits s v) (state : s < states p) {form : Form}
+      (acts : List Action) (node : nodeAt p s ≡ decision form acts) (has : 0 < length acts) where
     -- while nothing has been raised since r, each action before number i is too dear
     abbrev Missed : ℕ → ℕ → Search → Type 0
     Missed i r w = w .raises ≡ r → (j : ℕ) → j < i → valueAt w s < priceAt p w (actionAt acts j)
@@ -156,11 +156,11 @@ module _ (p : Problem) (wf : WellFormed p) (budget : ℕ) where
             absurd (omega (arith, le, least-above (priceAt p w) acts (suc (valueAt w s)) room dear))
 
     -- the actions of s are acts, however they are come by
-    its-acts : (P : List Action → Type 0) → P acts → (acts′ : List Action) → nodeAt p s ≡ decision acts′ → P acts′
+    its-acts : (P : List Action → Type 0) → P acts → {form′ : Form} (acts′ : List Action) → nodeAt p s ≡ decision form′ acts′ → P acts′
     its-acts P x acts′ e = let same : acts ≡ acts′ = cc in subst P same x
 
     no-end : {T : Type 0} (y : ℕ) → endOf (nodeAt p s) ≡ some y → T
-    no-end y e = absurd (omega (arith, barren acts y (rw node at e)))
+    no-end y e = absurd (omega (arith, barren form acts y (rw node at e)))
 
     fits-least : (w : Search) → Fits p (w .cells) s (least (priceAt p w) acts)
     fits-least w = record {
@@ -257,8 +257,8 @@ module _ (p : Problem) (wf : WellFormed p) (budget : ℕ) where
       (λ up lead. done (raised s x w) lead (solved-of raise ∙ isOpen) (value-of raise))
       (λ same. done w (stay ready) isOpen (sym same))
     where
-      no-action : {T : Type 0} (acts : List Action) → nodeAt p s ≡ decision acts → 0 < length acts → T
-      no-action acts e has = absurd (omega (arith, barren acts x (rw e at ends)))
+      no-action : {T : Type 0} {form : Form} (acts : List Action) → nodeAt p s ≡ decision form acts → 0 < length acts → T
+      no-action {form} acts e has = absurd (omega (arith, barren form acts x (rw e at ends)))
 
       fits : Fits p (w .cells) s x
       fits = record {
@@ -280,8 +280,8 @@ module _ (p : Problem) (wf : WellFormed p) (budget : ℕ) where
   unfolding visitOpenBy
   visitOpen-does v s does state (terminal cost) e w ready isOpen =
       finish-does s cost w (rw e) (omega (arith, wf .capped s cost e)) state ready isOpen
-  visitOpen-does v s does state (decision []) e w ready isOpen = finish-does s noPlan w (rw e) (omega arith) state ready isOpen
-  visitOpen-does v s does state (decision (a ∷ more)) e w ready isOpen =
+  visitOpen-does v s does state (decision form []) e w ready isOpen = finish-does s noPlan w (rw e) (omega arith) state ready isOpen
+  visitOpen-does v s does state (decision form (a ∷ more)) e w ready isOpen =
       tryAll-does v s does state (a ∷ more) e (omega arith) (length (a ∷ more)) 0 (omega arith) (w .raises) w (record {
         ready = ready;
         isOpen = isOpen;
@@ -301,7 +301,7 @@ module _ (p : Problem) (wf : WellFormed p) (budget : ℕ) where
       (λ t w′ lt tn r. visit-does k t w′ (omega arith) tn r) state (nodeAt p s) refl w ready e)
 
   -- an action of s that is tried and abandoned leaves s and the states before it alone
-  pub abandoned-leads : (s i : ℕ) (acts : List Action) → nodeAt p s ≡ decision acts → (w w′ : Search) → Ready p budget w →
+  pub abandoned-leads : (s i : ℕ) {form : Form} (acts : List Action) → nodeAt p s ≡ decision form acts → (w w′ : Search) → Ready p budget w →
       priceAt p w (actionAt acts i) ≤ valueAt w s → tryOne p budget (visit p budget (states p)) s acts i failure w ≡ failure w′ →
       Leads p budget (suc s) w w′
   unfolding tryOneBy onVisit

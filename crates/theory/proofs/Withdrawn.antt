@@ -3,36 +3,32 @@
 use Prim.Native.Nat.{ℕ, zero, suc, _<_, _≤_}
 use mathlib.Core.Path.{_≡_, refl, sym, ap, _∙_}
 use mathlib.Core.Bool.{true}
-use mathlib.Core.Logic.{_⊎_, inl, inr}
 use mathlib.Core.List.{List}
 use native.Mathlib.Omega.{arith}
 use borrow.Author.Tests.{le-leb, leb-true, eq-eqb, eqb-true}
-use lib.ListN.{length, List·getD-eq-default}
+use lib.ListN.{length}
 use Rattle.model.proofs.TestLaws.{also-true, true-also, all-true, true-all, every-true, true-every}
 use Rattle.model.proofs.QuestionLaws.{AllYes, none-no, all-yes}
-use Rattle.model.specs.Problem.{terminal, Problem, Cell, states, valueOf}
+use Rattle.model.specs.Problem.{Problem, Cell, states, valueOf}
 use Rattle.model.specs.Limits.{maxStates, ceiling}
 use Rattle.model.specs.Format.{Bytes, be16, write}
 use Rattle.model.specs.Read.{problemOf, cellsOf}
 use Rattle.model.specs.Questions.{question2, everyState, sheetQuestionsUnder, firstNo}
 use Rattle.model.specs.Questions.{refusalUnder}
 use Rattle.model.specs.Policy.{Checked}
-use Rattle.model.specs.Earlier.{instead, hasCheck, checkedThen, checkedRefusal, checkedAccepted, workThen, strictOrder}
-use Rattle.model.specs.Earlier.{strictlyAccepted, firstAccepted}
+use Rattle.model.specs.Earlier.{instead, hasCheck, checkedThen, checkedRefusal, checkedAccepted, workThen}
 use Rattle.model.specs.Report.{cellsAfter, onRefusal, answerUnder, bytesUnder, tableUnder}
 use Rattle.model.specs.Ldfs.{work}
-use Rattle.model.specs.Demands.{Raised, Loosened, Withdrawn}
+use Rattle.model.specs.Demands.{Withdrawn}
 use Rattle.layout.proofs.Heads.{head-says, head-same}
 use Rattle.layout.proofs.Index.{states-within, states-read}
 use Rattle.layout.proofs.Places.{write-length}
 use Rattle.theory.specs.Consistent.{Consistent}
-use Rattle.theory.proofs.Basics.{lt-or-le}
-use Rattle.theory.proofs.LimitLaws.{sheet-raised, yes-accepted, refusals-left}
+use Rattle.theory.proofs.Accepted.{is-state}
+use Rattle.theory.proofs.LimitLaws.{SheetYes, by-number, in-turn, with-head, sheet-raised, yes-accepted, refusals-left}
 use Rattle.theory.proofs.Sheets.{Stands, accepted-stands, stands-yes, stands-problem, stands-cells}
 use Rattle.theory.proofs.Called.{rewritten}
 use Rattle.theory.proofs.Promises.{problem-of, cells-of}
-use Rattle.theory.proofs.Limits.{accepted-before}
-use Rattle.theory.proofs.Loosened.{strict-in-order, order-loosened}
 use Rattle.theory.proofs.Numbers.{numbers, work-same}
 use Rattle.theory.proofs.Work.{work-does}
 
@@ -42,27 +38,24 @@ AllChecked p = everyState p (λ t n. hasCheck n) ≡ true
 
 each-checked : (p : Problem) → AllChecked p → Checked p
 unfolding hasCheck
-each-checked p h s acts e = go (lt-or-le s (states p))
-  where
-    go : (s < states p) ⊎ (states p ≤ s) → 0 < length acts
-    go (inl l) = leb-true 1 (length acts) (rw e at (every-true (states p) _ h s l))
-    go (inr le) = let z : _≡_ {A = ℕ} 0 1 = cc (List·getD-eq-default (p .nodes) (terminal 0) {n = s} le) in absurd (omega arith)
+each-checked p h s form acts e = leb-true 1 (length acts) (rw e at (every-true (states p) _ h s (is-state p s acts e)))
 
 -- What the questions of that time say of a sheet that they accept, beside what today's do.
-record Then (limit : ℕ) (s : List ℕ) : Type 0 where
-  today : AllYes (sheetQuestionsUnder limit s)
+pub record Then (limit : ℕ) (s : List ℕ) : Type 0 where
+  pub today : SheetYes limit s
   long : 20 ≤ length s
   checks : AllChecked (problemOf s)
   low : (t : ℕ) → t < states (problemOf s) → valueOf (cellsOf s) t ≤ ceiling
 
-says-then : (limit : ℕ) (s : List ℕ) → AllYes (checkedThen s (sheetQuestionsUnder limit s)) → Then limit s
+pub says-then : (limit : ℕ) (s : List ℕ) → AllYes (checkedThen s (sheetQuestionsUnder limit s)) → Then limit s
 unfolding instead question2
-says-then limit s (two, (three, (four, (five, more)))) =
+says-then limit s (two, (three, (four, (ten, (five, more))))) =
     let (least, most) = all-true _ two in
     let (fields, checks) = also-true _ _ four in
     let (ranges, low) = also-true _ _ five in
+    let enough = le-leb 17 (length s) (omega (arith, leb-true 20 (length s) least)) in
     record {
-      today = (true-all _ (le-leb 17 (length s) (omega (arith, leb-true 20 (length s) least)), most), (three, (fields, (ranges, more))));
+      today = by-number limit s (true-all _ (enough, most), (three, (fields, (ten, (ranges, more)))));
       long = leb-true 20 (length s) least;
       checks = checks;
       low = λ t l. leb-true _ _ (every-true _ _ low t l);
@@ -72,23 +65,17 @@ says-then limit s (two, (three, (four, (five, more)))) =
 then-says : (limit : ℕ) (s : List ℕ) → Then limit s → AllYes (checkedThen s (sheetQuestionsUnder limit s))
 unfolding instead question2
 then-says limit s h =
-    let (two, (three, (fields, (ranges, more)))) = h .today in
-    let (least, most) = all-true _ two in (
-      true-all _ (le-leb 20 (length s) (h .long), most),
-      (
-        three,
-        (
-          true-also _ _ fields (h .checks),
-          (true-also _ _ ranges (true-every _ _ (λ t l. le-leb _ _ (h .low t l))), more),
-        ),
-      ),
-    )
+    let (two, (three, (fields, (ten, (ranges, more))))) = in-turn limit s (h .today) in
+    let (least, most) = all-true _ two in
+    let low = true-every _ _ (λ t l. le-leb _ _ (h .low t l)) in
+    let five = true-also _ _ ranges low in
+    (true-all _ (le-leb 20 (length s) (h .long), most), (three, (true-also _ _ fields (h .checks), (ten, (five, more)))))
 
 accepted-then : (limit : ℕ) (s : List ℕ) → checkedAccepted limit s ≡ true → Then limit s
 unfolding checkedAccepted instead
 accepted-then limit s acc = says-then limit s (none-no (checkedThen s (sheetQuestionsUnder limit s)) refl (eqb-true _ _ acc))
 
-then-accepted : (limit : ℕ) (s : List ℕ) → Then limit s → checkedAccepted limit s ≡ true
+pub then-accepted : (limit : ℕ) (s : List ℕ) → Then limit s → checkedAccepted limit s ≡ true
 unfolding checkedAccepted
 then-accepted limit s h = eq-eqb _ _ (all-yes (checkedThen s (sheetQuestionsUnder limit s)) (then-says limit s h))
 
@@ -97,8 +84,8 @@ same-refusal : (limit : ℕ) (s : List ℕ) → Then limit s → (entries budget
     refusalUnder limit s entries budget ≡ checkedRefusal limit s entries budget
 unfolding checkedRefusal firstNo instead
 same-refusal limit s h entries budget =
-    let (two, (three, (four, (five, (six, (seven, (eight, _))))))) = then-says limit s h in
-    refusals-left limit s (h .today) entries budget ∙ sym (rw (two, three, four, five, six, seven, eight))
+    let (two, (three, (four, (ten, (five, (six, (seven, (eight, _)))))))) = then-says limit s h in
+    refusals-left limit s (h .today) entries budget ∙ sym (rw (two, three, four, ten, five, six, seven, eight))
 
 module _ (limit : ℕ) (within : limit ≤ maxStates) (s : List ℕ) (bytes : Bytes s) (acc : checkedAccepted limit s ≡ true) where
   was : Then limit s
@@ -118,15 +105,15 @@ module _ (limit : ℕ) (within : limit ≤ maxStates) (s : List ℕ) (bytes : By
   written-then cells h =
       let left = rewritten s (problemOf s) (cellsOf s) stands cells h in
       let problem = stands-problem _ _ _ left in
-      let (two, (three, more)) = stands-yes _ _ _ left in
-      let few = states-within s (was .today .1 .0) in
+      let yes = stands-yes _ _ _ left in
+      let few = states-within s (was .today .three) in
       let count : states (problemOf s) ≡ be16 (write (problemOf s) cells) 4 =
       ap (λ (p : Problem). states p) (sym problem) ∙ states-read (write (problemOf s) cells) in
-      let head = head-same maxStates limit _ (head-says _ three .5) (omega (arith, count, few)) in
+      let head = head-same maxStates limit _ (head-says _ (yes .three) .5) (omega (arith, count, few)) in
       let size : length (write (problemOf s) cells) ≡ length s =
       write-length (problemOf s) cells (cellsOf s) ∙ ap (λ (b : List ℕ). length b) (sym (stands .is)) in
       record {
-        today = (two, (sym head ∙ three, more));
+        today = with-head limit _ yes (sym head ∙ yes .three);
         long = omega (arith, was .long);
         checks = rw problem (was .checks);
         low = λ t l. rw (stands-cells _ _ _ left) (numbers (problemOf s) (problem-of stands) checked cells h t);
@@ -149,16 +136,3 @@ module _ (limit : ℕ) (within : limit ≤ maxStates) (s : List ℕ) (bytes : By
           then-accepted limit _
           (written-then _ (work-does (problemOf s) (problem-of stands) (cellsOf s) budget (cells-of stands) .consistent))
       again (suc n) budget = acc
-
--- sheets of the first version, which had all three: the smaller limit, the stricter order, and a check at every junction
-pub first-version : (s : List ℕ) → Bytes s → firstAccepted s ≡ true →
-    Withdrawn 1024 s × Loosened 1024 s × Raised 1024 maxStates s
-unfolding firstAccepted strictlyAccepted instead
-first-version s bytes acc =
-    let (two, (three, (four, (five, (strict, more))))) =
-    none-no (instead (strictOrder s) (checkedThen s (sheetQuestionsUnder 1024 s))) refl (eqb-true _ _ acc) in
-    let was = says-then 1024 s (two, (three, (four, (five, (strict-in-order (problemOf s) strict, more))))) in
-    let (size, (head, (fields, (ranges, (order, others))))) = was .today in
-    let strictly = all-yes (instead (strictOrder s) (sheetQuestionsUnder 1024 s)) (size, (head, (fields, (ranges, (strict, others))))) in
-    let kept = order-loosened 1024 s (eq-eqb _ _ strictly) in
-    (checks-withdrawn 1024 (omega arith) s bytes (then-accepted 1024 s was), kept, accepted-before s (kept .still-accepted))

@@ -8,8 +8,9 @@ const MOST_STATES: usize = 4096;
 
 const HEAD: u8 = 1;
 const TERMINAL: u8 = 2;
-const DECISION: u8 = 3;
+const PLAIN: u8 = 3;
 const ACTION: u8 = 4;
+const COUNTED: u8 = 5;
 
 #[derive(PartialEq)]
 enum Visit {
@@ -24,6 +25,8 @@ struct Search<'a> {
     states: usize,
     start: usize,
     whole: bool,
+    /// No counted junction was met that writes another number than that of its checks.
+    counts_good: bool,
     budget: u64,
     raises: u64,
 }
@@ -39,7 +42,7 @@ pub fn solve(sheet: &mut [u8], table: &mut [u8], budget: u64, result: &mut [u8])
     let entries = table.len() / 4;
     table[..4 * entries].fill(0);
     let offsets = [0; MOST_STATES];
-    let mut search = Search { bytes: sheet, offsets, states: 0, start: 0, whole: false, budget, raises: 0 };
+    let mut search = Search { bytes: sheet, offsets, states: 0, start: 0, whole: false, counts_good: true, budget, raises: 0 };
     let refused = search.refusal();
     if refused != 0 {
         return refused;
@@ -103,8 +106,10 @@ impl Search<'_> {
         self.get32(self.offset(state) + 3)
     }
 
+    /// Behind the junction's own field, whose length is that of its form.
     fn first_action(&self, state: usize) -> usize {
-        self.offset(state) + 9
+        let at = self.offset(state);
+        at + 3 + usize::from(self.bytes[at + 2])
     }
 
     fn action_here(&self, at: usize) -> bool {
@@ -144,7 +149,7 @@ impl Search<'_> {
         }
     }
 
-    // Questions 2 to 9.
+    // Questions 2 to 10.
 
     fn refusal(&mut self) -> u32 {
         if self.bytes.len() < 17 || self.bytes.len() > 60_000 {
@@ -153,6 +158,8 @@ impl Search<'_> {
             3
         } else if !self.states_good() {
             4
+        } else if !self.counts_good {
+            10
         } else if !(0..self.states).all(|s| self.numbers_good(s)) {
             5
         } else if !(0..self.states).all(|s| self.order_good(s)) {
@@ -191,6 +198,7 @@ impl Search<'_> {
         }
     }
 
+    /// Question 4. Written numbers are held to the checks that follow on the way; question 10 comes when all fields are read.
     fn states_good(&mut self) -> bool {
         let mut at = 8;
         for state in 0..self.states {
@@ -199,10 +207,15 @@ impl Search<'_> {
                 at += 12;
                 continue;
             }
-            if self.field_length(at, DECISION) != 9 {
+            let written = if self.field_length(at, PLAIN) == 9 {
+                at += 9;
+                None
+            } else if self.field_length(at, COUNTED) == 10 {
+                at += 10;
+                Some(self.bytes[at - 1])
+            } else {
                 return false;
-            }
-            at += 9;
+            };
             let mut actions = 0;
             while self.action_here(at) {
                 let length = self.field_length(at, ACTION);
@@ -212,6 +225,7 @@ impl Search<'_> {
                 at += length;
                 actions += 1;
             }
+            self.counts_good &= written.is_none_or(|count| count == actions);
         }
         at == self.bytes.len()
     }

@@ -13,6 +13,7 @@ pub fn all() -> Vec<Sample> {
         sample("forty junctions", include_bytes!("../../../samples/forty.sheet").to_vec()),
         sample("60,000 bytes, worst, one pass", values_at(full_size(0), 100)),
         sample("60,000 bytes, whole, one pass", values_at(full_size(1), 100)),
+        sample("all counted, worst, one pass", values_at(full_size_counted(), 100)),
         sample("many raises, worst", many_raises(0)),
         sample("many raises, whole", many_raises(1)),
         sample("1,000-deep chain, one pass", values_at(chain(1_000), 100)),
@@ -22,12 +23,14 @@ pub fn all() -> Vec<Sample> {
     ]
 }
 
-/// Junctions without checks: all have to agree on these too, and no times are taken.
+/// Junctions without checks, and counted ones: all have to agree on these too, and no times are taken.
 pub fn unmeasured() -> Vec<Sample> {
     let sample = |name, bytes: &[u8]| Sample { name, bytes: bytes.to_vec() };
     vec![
         sample("no check left", include_bytes!("../../../samples/no-check-left.sheet")),
         sample("no check left, over", include_bytes!("../../../samples/no-check-left-over.sheet")),
+        sample("sheet J", include_bytes!("../../../samples/counted.sheet")),
+        sample("sheet J, a check lost", include_bytes!("../../../samples/refused-10.sheet")),
     ]
 }
 
@@ -63,6 +66,11 @@ pub fn push_decision(bytes: &mut Vec<u8>) {
     push(bytes, 3, &[0; 6]);
 }
 
+/// A counted junction, which writes the number of its checks.
+fn push_counted(bytes: &mut Vec<u8>, actions: u8) {
+    push(bytes, 5, &[0, 0, 0, 0, 0, 0, actions]);
+}
+
 pub fn push_action(bytes: &mut Vec<u8>, cost: usize, mut successors: Vec<usize>) {
     successors.sort();
     let mut content = (cost as u32).to_be_bytes().to_vec();
@@ -75,14 +83,24 @@ pub fn push_action(bytes: &mut Vec<u8>, cost: usize, mut successors: Vec<usize>)
 /// 800 junctions with four checks each and 200 endings. A check leads to one later junction, on worst sheets to two, and else to
 /// endings: 4 findings, and 5 at the first 299 junctions, which makes 60,000 bytes.
 pub fn full_size(kind: u8) -> Vec<u8> {
+    full_size_of(kind, 299, push_decision)
+}
+
+/// A worst sheet of this kind whose junctions are all counted, each a byte longer: 5 findings at the first 199, and 60,000 bytes again.
+fn full_size_counted() -> Vec<u8> {
+    full_size_of(0, 199, |bytes| push_counted(bytes, 4))
+}
+
+/// The same with 5 findings at so many junctions, whose own fields are written so.
+fn full_size_of(kind: u8, wider: usize, push_own: fn(&mut Vec<u8>)) -> Vec<u8> {
     const JUNCTIONS: usize = 800;
     const ENDINGS: usize = 200;
     let mut draws = Draws(60_000);
     let mut bytes = head(kind, JUNCTIONS + ENDINGS);
     for number in 0..JUNCTIONS {
-        push_decision(&mut bytes);
+        push_own(&mut bytes);
         for _ in 0..4 {
-            let findings = if number < 299 { 5 } else { 4 };
+            let findings = if number < wider { 5 } else { 4 };
             let mut successors = Vec::new();
             for place in 0..findings {
                 let later = number + 1 + draws.below(6);
@@ -171,10 +189,9 @@ pub fn values_at(mut bytes: Vec<u8>, hundredths: u64) -> Vec<u8> {
     let mut at = 8;
     for cost in sheet.least_costs() {
         let value = ((sweep::written(cost) * hundredths / 100) as u32).to_be_bytes();
-        let terminal = bytes[at] == 2;
-        let place = if terminal { at + 7 } else { at + 3 };
+        let place = if bytes[at] == 2 { at + 7 } else { at + 3 };
         bytes[place..place + 4].copy_from_slice(&value);
-        at += if terminal { 12 } else { 9 };
+        at += 3 + usize::from(bytes[at + 2]);
         while at < bytes.len() && bytes[at] == 4 {
             at += 3 + usize::from(bytes[at + 2]);
         }

@@ -1,10 +1,12 @@
-//! A case from a seed: a sheet, perhaps with junctions emptied, perhaps with repeats, perhaps worked, perhaps damaged, and a list of calls.
+//! A case from a seed: a sheet, perhaps with junctions emptied, perhaps with repeats, perhaps with counted junctions, perhaps worked,
+//! perhaps damaged, and a list of calls.
 
 use crate::calls::{self, Call, TABLE_BYTES};
 use crate::cells::{self, Worked};
 use crate::damage;
 use crate::draft::Draft;
 use crate::emptied;
+use crate::forms;
 use crate::groups;
 use crate::rng::Rng;
 use crate::shapes::{self, SHAPES};
@@ -22,6 +24,8 @@ pub struct Case {
 
 pub fn make(seed: u64) -> Case {
     let mut rng = Rng::new(seed);
+    // Forms and their damage are drawn from numbers of their own, so that they change nothing else of a sheet.
+    let mut of_forms = Rng::new(!seed);
     let (shape, draw) = SHAPES[shapes::draw(&mut rng)];
     let mut draft = draw(&mut rng);
     if rng.one_in(3) {
@@ -30,6 +34,7 @@ pub fn make(seed: u64) -> Case {
     if draft.kind == 1 && rng.one_in(2) {
         groups::put(&mut draft, &mut rng);
     }
+    forms::put(&mut draft, &mut of_forms);
     let filled = how_worked(&mut rng, shape, &draft);
     cells::fill(&mut draft, &mut rng, filled);
     let (in_draft, in_bytes) =
@@ -37,10 +42,12 @@ pub fn make(seed: u64) -> Case {
     if in_draft {
         damage::draft(&mut draft, &mut rng);
     }
+    let in_numbers = forms::draft(&mut draft, &mut of_forms, in_draft || in_bytes);
     let mut bytes = draft.bytes();
     if in_bytes {
         damage::bytes(&mut bytes, &mut rng);
     }
+    let in_tags = forms::bytes(&mut bytes, &mut of_forms);
     let mut calls: Vec<Call> = (0..rng.between(1, 5)).map(|_| calls::draw(&mut rng)).collect();
     let states = draft.states.len();
     let most = most_raises(states);
@@ -48,7 +55,8 @@ pub fn make(seed: u64) -> Case {
     if worked.is_none() {
         calls.iter_mut().for_each(|call| call.budget = call.budget.min(most));
     }
-    Case { shape, damaged: in_draft || in_bytes, states, bytes, calls, worked }
+    let damaged = in_draft || in_bytes || in_numbers || in_tags;
+    Case { shape, damaged, states, bytes, calls, worked }
 }
 
 /// Large sheets are worked nearly to their end, or visits would never get far into them; those with repeats, or with a junction without

@@ -4,7 +4,7 @@ use crate::calls::{Call, ENTRY_BYTES, FORMER_TABLE_BYTES, TABLE_BYTES};
 use crate::coverage::Coverage;
 use crate::draft::{FEW_STATES, FORMER_MOST, MOST_STATES};
 use crate::lent::Lent;
-use crate::{none, none_refused, repeats};
+use crate::{counted, none, none_refused, repeats};
 use sweep::{meant, written, Action, Cost, Node, Sheet, CEILING};
 
 /// Makes the calls one after another, each on the bytes that the last one left, and compares everything that each of them leaves.
@@ -30,28 +30,32 @@ pub fn run(outset: &[u8], calls: &[Call], seen: &mut Coverage) -> Result<(), Str
     let Ok(first) = sweep::read(outset) else {
         repeats::count_refused(outset, highest, seen);
         none_refused::count_refused(outset, highest, seen);
+        counted::count_refused(outset, highest, seen);
         return Ok(());
     };
     let last = sweep::read(&bytes).map_err(|number| format!("a worked sheet is refused {number}"))?;
     worked(&first, &last, raises)?;
     none::outcomes(&first, &numbers)?;
+    counted::lost(outset, &first, calls, seen)?;
     count_sheet(outset, &first, &last, seen);
+    counted::count_sizes(outset.len(), &first, seen);
     seen.add("repeats: one finding n times costs n times", repeats::multiplied(&last)?);
     if highest >= 100 {
         repeats::count(&first, &last, carried_on, seen);
         none::count(&first, &last, seen);
+        counted::count(&first, &last, carried_on, seen);
     }
     Ok(())
 }
 
-struct Answer {
-    number: u32,
+pub struct Answer {
+    pub number: u32,
     raises: u64,
     passes: u64,
 }
 
 /// One call, by the library and by `procedure`.
-fn one(bytes: &mut [u8], call: &Call) -> Result<Answer, String> {
+pub fn one(bytes: &mut [u8], call: &Call) -> Result<Answer, String> {
     let (mut table, mut result) = (call.table.clone(), call.result.clone());
     let mut lent = Lent::new(bytes, call.before);
     let mut lent_table = Lent::new(&table, call.before + 1);
@@ -89,7 +93,7 @@ fn number64(bytes: &[u8], at: usize) -> u64 {
 }
 
 /// The refusal again, by the other reader of bytes.
-fn refusal_by_sweep(bytes: &[u8], call: &Call, number: u32) -> Result<(), String> {
+pub fn refusal_by_sweep(bytes: &[u8], call: &Call, number: u32) -> Result<(), String> {
     let expected = if call.result.len() < 24 || call.table.len() < TABLE_BYTES {
         1
     } else {
@@ -121,11 +125,14 @@ fn budget_is_spent(call: &Call, answer: &Answer) -> Result<(), String> {
     Ok(())
 }
 
-/// Demand 3: what holds of a sheet after any list of calls, by the least costs as they are written (S8.6 to S8.10).
+/// Demand 3: what holds of a sheet after any list of calls, by the least costs as they are written (S8.5 to S8.10).
 fn worked(first: &Sheet, last: &Sheet, raises: u64) -> Result<(), String> {
     let least = last.least_costs();
     if least != first.least_costs() {
         return Err("work has changed the problem".to_string());
+    }
+    if last.counts != first.counts {
+        return Err("work has changed a junction's form or its number".to_string());
     }
     let mut gap_at_outset = 0;
     let mut gap_left = 0;
@@ -176,6 +183,7 @@ fn count(call: &Call, answer: &Answer, before: &[u8], stopped_before: bool, seen
         refusal => seen.saw(&format!("refused {refusal}")),
     }
     let unrefused = answer.number >= 100;
+    seen.saw_if(answer.number == 10 && call.budget == 0, "refused 10: with the budget 0");
     seen.add("raises", answer.raises);
     seen.saw_if(answer.raises > 65_536, "more than 65,536 raises in one call");
     seen.saw_if(stopped_before && unrefused, "carried on");

@@ -3,7 +3,7 @@
 use std::collections::BTreeMap;
 
 /// A long run must have each of these.
-const WANTED: [&str; 111] = [
+const WANTED: [&str; 152] = [
     "refused 1",
     "refused 2",
     "refused 3",
@@ -13,6 +13,7 @@ const WANTED: [&str; 111] = [
     "refused 7",
     "refused 8",
     "refused 9",
+    "refused 10",
     "settled worst",
     "settled whole",
     "over worst",
@@ -115,10 +116,50 @@ const WANTED: [&str; 111] = [
     "refused 8: settled without checks at 0",
     "refused 8: settled without checks a cent below the ceiling",
     "refused 8: settled without checks at the ceiling",
+    "forms: plain junctions only",
+    "forms: counted junctions only",
+    "forms: both in one sheet",
+    "counted: 18 bytes",
+    "counted: 60,000 bytes",
+    "counted: 4,096 states",
+    "counted: partly worked at the outset",
+    "counted: stopped and carried on",
+    "counted: raised by work and open still",
+    "counted: settled on a worst sheet",
+    "counted: settled on a whole sheet",
+    "counted: settled with more than 256 states",
+    "counted: settled at the ceiling",
+    "counted: settled at none",
+    "counted: settled without checks",
+    "counted: settled with 16 checks",
+    "counted: settled by another check than the first",
+    "lost: the last check of a counted junction",
+    "lost: a check before the last of a counted junction",
+    "lost: with the budget 0",
+    "refused 4: behind a wrong number",
+    "refused 4: 17 checks where 17 is written, and nothing else",
+    "refused 4: tag 05 with length 6, and nothing else",
+    "refused 4: tag 03 with length 7, and nothing else",
+    "refused 10: refused 5 with the right number",
+    "refused 10: refused 6 with the right number",
+    "refused 10: refused 7 with the right number",
+    "refused 10: refused 8 with the right number",
+    "refused 10: with the budget 0",
+    "refused 10: one more is written than follow",
+    "refused 10: one fewer is written than follow",
+    "refused 10: 0 is written where checks follow",
+    "refused 10: 200 is written",
+    "refused 10: 255 is written",
+    "refused 10: the number is off by more than one",
+    "refused 10: a number is written where no check follows",
+    "refused 10: 17 is written where 16 checks follow",
+    "refused 10: several numbers are wrong",
+    "refused 10: one of several numbers is wrong",
+    "refused 10: beside plain junctions",
 ];
 
 /// Wanted too where a `price` program is given.
-const WANTED_OF_PRICE: [&str; 13] = [
+const WANTED_OF_PRICE: [&str; 15] = [
     "price: settled",
     "price: over",
     "price: none",
@@ -132,6 +173,8 @@ const WANTED_OF_PRICE: [&str; 13] = [
     "price: by where a repeated finding shares the largest value",
     "price: run along by adds up to the price",
     "price: settled past a junction without checks",
+    "price: refused 10",
+    "price: a counted junction's line",
 ];
 
 /// And of these, one sheet in so many must have had each: the whole text was compared, and had the line of a junction in it.

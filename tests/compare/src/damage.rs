@@ -1,6 +1,6 @@
 //! Damage. Each question is tried on both sides of its boundary, in the draft; then bytes are flipped, cut off and added.
 
-use crate::draft::{Action, Draft, Node, FEW_STATES, FORMER_MOST, MOST_STATES};
+use crate::draft::{Action, Draft, Form, Node, FEW_STATES, FORMER_MOST, MOST_STATES};
 use crate::rng::Rng;
 use crate::{emptied, groups, none_damage};
 
@@ -77,12 +77,14 @@ fn start(draft: &mut Draft, rng: &mut Rng) {
 
 // Question 4.
 
-/// 0 to 16 checks are as many as a junction may have.
+/// 0 to 16 checks are as many as a junction may have. A counted one writes their number every other time.
 fn number_of_checks(draft: &mut Draft, rng: &mut Rng) {
     let wanted = rng.pick(&[0, 1, 15, 16, 17, 18]);
-    if let Some(actions) = decision(draft, rng).map(|(_, actions)| actions) {
-        let last = actions[actions.len() - 1].clone();
-        actions.resize(wanted, last);
+    let Some((number, actions)) = decision(draft, rng) else { return };
+    let last = actions[actions.len() - 1].clone();
+    actions.resize(wanted, last);
+    if draft.counted(number) && rng.one_in(2) {
+        draft.states[number].form = Form::Counted(wanted as u8);
     }
 }
 
@@ -299,7 +301,7 @@ fn size_limits(bytes: &mut Vec<u8>, rng: &mut Rng) {
 
 fn tag(bytes: &mut Vec<u8>, rng: &mut Rng) {
     if let Some(place) = field(bytes, rng) {
-        bytes[place] = rng.pick(&[0, 1, 2, 3, 4, 5, 255]);
+        bytes[place] = rng.pick(&[0, 1, 2, 3, 4, 5, 6, 255]);
     }
 }
 
@@ -326,14 +328,20 @@ fn repeat_field(bytes: &mut Vec<u8>, rng: &mut Rng) {
     }
 }
 
-/// Where a field begins, as far as fields follow one another; the last ones are drawn as often as all others.
-fn field(bytes: &[u8], rng: &mut Rng) -> Option<usize> {
+/// Where fields begin, as far as they follow one another.
+pub fn places(bytes: &[u8]) -> Vec<usize> {
     let mut places = Vec::new();
     let mut at = 0;
     while at + 3 <= bytes.len() {
         places.push(at);
         at += 3 + usize::from(bytes[at + 1]) * 256 + usize::from(bytes[at + 2]);
     }
+    places
+}
+
+/// Where a field begins; the last ones are drawn as often as all others.
+fn field(bytes: &[u8], rng: &mut Rng) -> Option<usize> {
+    let places = places(bytes);
     if places.is_empty() {
         return None;
     }

@@ -12,9 +12,18 @@ pub enum Node {
     Decision(Vec<Action>),
 }
 
+/// The form of a junction's field (S3.6): a counted one writes a number of checks, which need not be that of its own.
+#[derive(Clone, Copy, PartialEq)]
+pub enum Form {
+    Plain,
+    Counted(u8),
+}
+
+/// An ending has a form too, which is not written.
 #[derive(Clone)]
 pub struct State {
     pub node: Node,
+    pub form: Form,
     pub value: u32,
     pub mark: u8,
     pub chosen: u8,
@@ -50,9 +59,9 @@ pub const HEAD_BYTES: usize = 8;
 pub const TERMINAL_BYTES: usize = 12;
 
 impl Draft {
-    /// All states open, with value 0.
+    /// All states open, with value 0, and all junctions plain.
     pub fn new(kind: u8, start: usize, nodes: Vec<Node>) -> Draft {
-        let blank = |node| State { node, value: 0, mark: 0, chosen: 0 };
+        let blank = |node| State { node, form: Form::Plain, value: 0, mark: 0, chosen: 0 };
         Draft { kind, count: nodes.len() as u16, start: start as u16, states: nodes.into_iter().map(blank).collect() }
     }
 
@@ -96,13 +105,19 @@ impl Draft {
         }
     }
 
+    /// Is the state a counted junction?
+    pub fn counted(&self, state: usize) -> bool {
+        let state = &self.states[state];
+        matches!(state.node, Node::Decision(_)) && state.form != Form::Plain
+    }
+
     /// Is the state a junction that has no checks?
     pub fn emptied(&self, state: usize) -> bool {
         matches!(&self.states[state].node, Node::Decision(actions) if actions.is_empty())
     }
 }
 
-/// The number of bytes that a state's fields take.
+/// The number of bytes that a state's fields take, where it is plain.
 pub fn size(node: &Node) -> usize {
     match node {
         Node::Terminal(_) => TERMINAL_BYTES,
@@ -124,8 +139,14 @@ fn push_state(bytes: &mut Vec<u8>, state: &State) {
             push_field(bytes, 2, &content);
         }
         Node::Decision(actions) => {
-            let content = [&value[..], &[state.mark, state.chosen]].concat();
-            push_field(bytes, 3, &content);
+            let mut content = [&value[..], &[state.mark, state.chosen]].concat();
+            match state.form {
+                Form::Plain => push_field(bytes, 3, &content),
+                Form::Counted(number) => {
+                    content.push(number);
+                    push_field(bytes, 5, &content);
+                }
+            }
             for action in actions {
                 push_action(bytes, action);
             }

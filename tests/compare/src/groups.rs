@@ -33,10 +33,11 @@ pub fn any(draft: &Draft) -> bool {
     })
 }
 
-/// The bytes that a sheet may grow by.
+/// The bytes that a sheet may grow by. A counted junction takes one more than a plain one.
 pub fn room(draft: &Draft) -> usize {
     let bytes = HEAD_BYTES + draft.states.iter().map(|state| size(&state.node)).sum::<usize>();
-    FULL.saturating_sub(bytes)
+    let counted = (0..draft.states.len()).filter(|&state| draft.counted(state)).count();
+    FULL.saturating_sub(bytes + counted)
 }
 
 /// Lists a finding several times, as far as the check and the sheet have room; where they have none, in the place of those that follow it.

@@ -1,7 +1,7 @@
 //! The `price` program, run on a sheet and compared with the lines of `procedure`.
 
 use crate::coverage::Coverage;
-use crate::{dearest, lines, none, run};
+use crate::{counted, dearest, lines, none, run};
 use std::io::Write;
 use std::process::{Command, Output, Stdio};
 use sweep::Sheet;
@@ -13,6 +13,7 @@ pub fn compare(program: &str, bytes: &[u8], worked: &[u8], seen: &mut Coverage) 
     let word = expected.split_whitespace().next().unwrap_or("");
     seen.saw("price: compared");
     seen.saw(&format!("price: {word}"));
+    seen.saw_if(expected == "refused 10\n", "price: refused 10");
     if word == "settled" {
         let sheet = sweep::read(worked).map_err(|number| format!("a worked sheet is refused {number}"))?;
         if lines::stages(&printed)? != sheet.plan_states() {
@@ -20,6 +21,7 @@ pub fn compare(program: &str, bytes: &[u8], worked: &[u8], seen: &mut Coverage) 
         }
         none::not_reached(&sheet, seen)?;
         dearest::count(&sheet, seen);
+        counted::listed(&sheet, seen);
         follow(&printed, &sheet, seen)?;
     }
     Ok(())

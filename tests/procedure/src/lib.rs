@@ -5,6 +5,8 @@
 #[cfg(test)]
 mod by_hand;
 #[cfg(test)]
+mod counted;
+#[cfg(test)]
 mod emptied;
 mod host;
 mod ldfs;
@@ -38,6 +40,8 @@ pub struct State {
     pub terminal_cost: Option<u64>,
     /// A junction's checks, of which none may be left (S1.2); an ending has none.
     pub actions: Vec<Action>,
+    /// The number of checks that a counted junction writes, be it right or wrong (S3.6); a plain one and an ending write none.
+    pub count: Option<usize>,
     pub value: u64,
     pub mark: u8,
     pub chosen: usize,

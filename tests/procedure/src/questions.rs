@@ -1,4 +1,4 @@
-//! Questions 2 to 8 (S4.2 to S4.8), each put to the whole sheet before the next.
+//! Questions 2 to 4, 10 and 5 to 8 (S4.2 to S4.8, S4.10), in this order, each put to the whole sheet before the next.
 
 use crate::reader::{has_head, number16, read};
 use crate::{Sheet, State, MOST_STATES, NONE};
@@ -18,6 +18,9 @@ pub fn accept(bytes: &[u8]) -> Result<Sheet, u32> {
     let Some(sheet) = read(bytes) else {
         return Err(4);
     };
+    if !sheet.states.iter().all(count_right) {
+        return Err(10);
+    }
     if !sheet.states.iter().all(numbers_in_range) {
         return Err(5);
     }
@@ -31,6 +34,11 @@ pub fn accept(bytes: &[u8]) -> Result<Sheet, u32> {
         return Err(8);
     }
     Ok(sheet)
+}
+
+/// A counted junction writes the number of checks that follow it (S4.10).
+fn count_right(state: &State) -> bool {
+    state.count.is_none_or(|written| written == state.actions.len())
 }
 
 fn numbers_in_range(state: &State) -> bool {

@@ -48,6 +48,7 @@ fn read_state(bytes: &[u8], at: &mut usize) -> Option<State> {
             offset,
             terminal_cost: Some(number32(bytes, offset + 3)),
             actions: Vec::new(),
+            count: None,
             value: number32(bytes, offset + 7),
             mark: bytes[offset + 11],
             chosen: 0,
@@ -55,16 +56,26 @@ fn read_state(bytes: &[u8], at: &mut usize) -> Option<State> {
     }
     if content_length(bytes, offset, 0x03) == Some(6) {
         *at = offset + 9;
-        return Some(State {
-            offset,
-            terminal_cost: None,
-            actions: read_actions(bytes, at)?,
-            value: number32(bytes, offset + 3),
-            mark: bytes[offset + 7],
-            chosen: usize::from(bytes[offset + 8]),
-        });
+        return read_decision(bytes, offset, None, at);
+    }
+    if content_length(bytes, offset, 0x05) == Some(7) {
+        *at = offset + 10;
+        return read_decision(bytes, offset, Some(usize::from(bytes[offset + 9])), at);
     }
     None
+}
+
+/// The junction of a field, in either form (S3.6), with the checks that follow it, whatever number it writes.
+fn read_decision(bytes: &[u8], offset: usize, count: Option<usize>, at: &mut usize) -> Option<State> {
+    Some(State {
+        offset,
+        terminal_cost: None,
+        actions: read_actions(bytes, at)?,
+        count,
+        value: number32(bytes, offset + 3),
+        mark: bytes[offset + 7],
+        chosen: usize::from(bytes[offset + 8]),
+    })
 }
 
 /// The checks that follow a junction's field: 0 to 16.
@@ -83,7 +94,7 @@ fn read_actions(bytes: &[u8], at: &mut usize) -> Option<Vec<Action>> {
     Some(actions)
 }
 
-/// Stores values, marks and chosen checks at their places, and nothing else.
+/// Stores values, marks and chosen checks at their places, and nothing else: a junction keeps its form.
 pub fn store(sheet: &Sheet, bytes: &mut [u8]) {
     for state in &sheet.states {
         let at = state.offset;

@@ -4,6 +4,8 @@
 //! and shares no code with the program `procedure`.
 
 #[cfg(test)]
+mod counted;
+#[cfg(test)]
 mod emptied;
 mod lost;
 mod reader;
@@ -55,6 +57,8 @@ pub struct Sheet {
     pub whole: bool,
     pub start: usize,
     pub nodes: Vec<Node>,
+    /// How many checks each counted junction says it has (S3.6); plain ones and endings say nothing.
+    pub counts: Vec<Option<u8>>,
     pub cells: Vec<Cell>,
 }
 
@@ -163,5 +167,6 @@ mod tests {
         assert_eq!(least_cost(include_bytes!("../../../samples/refused-6.sheet")), Err(6));
         assert_eq!(least_cost(include_bytes!("../../../samples/refused-7.sheet")), Err(7));
         assert_eq!(least_cost(include_bytes!("../../../samples/refused-8.sheet")), Err(8));
+        assert_eq!(least_cost(include_bytes!("../../../samples/refused-10.sheet")), Err(10));
     }
 }

@@ -1,4 +1,5 @@
-//! Reading a sheet: fields are taken off the front of the bytes, one after another. Questions 2 to 8 are answered on the way.
+//! Reading a sheet: fields are taken off the front of the bytes, one after another. Questions 2 to 8 and 10 are answered on
+//! the way.
 
 use crate::{Action, Cell, Node, Sheet, NONE};
 
@@ -12,16 +13,16 @@ const MOST_STATES: usize = 4096;
 /// A question about one state: is it answered yes?
 type Question = fn(&Sheet, usize) -> bool;
 
-/// The sheet that the bytes say, or the number of the first of questions 2 to 8 whose answer is no.
+/// The sheet that the bytes say, or the number of the first question whose answer is no, of 2 to 8 and 10.
 pub fn read(bytes: &[u8]) -> Result<Sheet, u32> {
     let sheet = fields(bytes)?;
     ask(&sheet)?;
     Ok(sheet)
 }
 
-/// Questions 5 to 8, of a sheet whose fields are in place: the number of the first whose answer is no.
+/// Questions 10 and 5 to 8, of a sheet whose fields are in place: the number of the first whose answer is no.
 pub fn ask(sheet: &Sheet) -> Result<(), u32> {
-    let questions: [(u32, Question); 4] = [(5, in_range), (6, in_order), (7, not_above), (8, earned)];
+    let questions: [(u32, Question); 5] = [(10, well_counted), (5, in_range), (6, in_order), (7, not_above), (8, earned)];
     for (number, passes) in questions {
         if !(0..sheet.nodes.len()).all(|state| passes(sheet, state)) {
             return Err(number);
@@ -36,8 +37,8 @@ pub fn fields(bytes: &[u8]) -> Result<Sheet, u32> {
         return Err(2);
     }
     let (whole, count, start, rest) = head(bytes).ok_or(3u32)?;
-    let (nodes, cells) = states(count, rest).ok_or(4u32)?;
-    Ok(Sheet { whole, start, nodes, cells })
+    let (nodes, counts, cells) = states(count, rest).ok_or(4u32)?;
+    Ok(Sheet { whole, start, nodes, counts, cells })
 }
 
 /// The next field: its tag, its content, and what follows it.
@@ -61,21 +62,22 @@ fn head(bytes: &[u8]) -> Option<(bool, usize, usize, &[u8])> {
     ((1..=MOST_STATES).contains(&count) && start < count).then_some((*kind == 1, count, start, rest))
 }
 
-/// Exactly this many states, and nothing behind them.
-fn states(count: usize, mut rest: &[u8]) -> Option<(Vec<Node>, Vec<Cell>)> {
-    let mut nodes = Vec::new();
-    let mut cells = Vec::new();
+/// Exactly this many states, and nothing behind them. A counted junction's content is a plain one's and its count (S3.2).
+fn states(count: usize, mut rest: &[u8]) -> Option<(Vec<Node>, Vec<Option<u8>>, Vec<Cell>)> {
+    let (mut nodes, mut counts, mut cells) = (Vec::new(), Vec::new(), Vec::new());
     for _ in 0..count {
-        let (node, cell, after) = match field(rest)? {
-            (2, content, after) => terminal(content, after)?,
-            (3, content, after) => decision(content, after)?,
+        let (said, (node, cell, after)) = match field(rest)? {
+            (2, content, after) => (None, terminal(content, after)?),
+            (3, content, after) => (None, decision(content, after)?),
+            (5, [content @ .., said], after) => (Some(*said), decision(content, after)?),
             _ => return None,
         };
         nodes.push(node);
+        counts.push(said);
         cells.push(cell);
         rest = after;
     }
-    rest.is_empty().then_some((nodes, cells))
+    rest.is_empty().then_some((nodes, counts, cells))
 }
 
 fn terminal<'a>(content: &[u8], after: &'a [u8]) -> Option<(Node, Cell, &'a [u8])> {
@@ -106,6 +108,14 @@ fn action(content: &[u8]) -> Option<Action> {
     }
     let successors = content[4..].chunks(2).map(|pair| number(pair) as usize).collect();
     Some(Action { cost: number(&content[..4]), successors })
+}
+
+/// Question 10: a junction that says how many checks it has says it rightly.
+fn well_counted(sheet: &Sheet, state: usize) -> bool {
+    match sheet.counts[state] {
+        Some(said) => usize::from(said) == sheet.actions(state).len(),
+        None => true,
+    }
 }
 
 /// Question 5: costs, value, mark and chosen check are in their ranges. Where there is nothing to choose from, 0 is chosen.

@@ -7,7 +7,7 @@ use borrow.Author.Needs.{needs}
 use Rattle.model.specs.Format.{Bytes, be16}
 use Rattle.model.specs.Questions.{question3}
 use Rattle.layout.proofs.Heads.{head-says}
-use Rattle.questions.proofs.Asking.{Laid, too-short, too-long, no-3, no-4, then-states, states-are, zero-within, table-is}
+use Rattle.questions.proofs.Asking.{Laid, too-short, too-long, no-3, no-4, no-10, then-states, states-are, zero-within, table-is}
 use Rattle.questions.proofs.first_no.Statement.{statement}
 use Rattle.questions.proofs.first_no.Tie as tie
 
@@ -22,7 +22,7 @@ sized-of c = c .before .before
 abbrev headed-of : tie.After-word-to-index → tie.Then3
 headed-of c = c .before .before
 
-abbrev counted-of : tie.After-fields-in-place → tie.After-word-to-index
+abbrev counted-of : tie.After-read-fields → tie.After-word-to-index
 counted-of c = c .before .before
 
 -- the head is in place, and n is its number of states
@@ -46,7 +46,7 @@ laid c =
       within = start-of size .pre .1;
       head = headed (headed-of n);
       count = counted n;
-      good = sym (stages .fields-in-place .ensures .0) ∙ c .if4 .taken;
+      good = sym (stages .read-fields .ensures .0) ∙ c .if4 .taken;
     }
 
 -- the bytes are bytes
@@ -70,8 +70,8 @@ get16-requires c κs = omega arith
 word-to-index-requires : tie.Need-word-to-index-requires
 word-to-index-requires c κs = search needs
 
-fields-in-place-requires : tie.Need-fields-in-place-requires
-fields-in-place-requires c κs =
+read-fields-requires : tie.Need-read-fields-requires
+read-fields-requires c κs =
     let n = c .before in
     let size = sized-of (headed-of n) in
     let h = head-says (start-of size .args .sheet .now) (headed (headed-of n)) in
@@ -79,34 +79,45 @@ fields-in-place-requires c κs =
 
 states-no-requires : tie.Need-states-no-requires
 states-no-requires c κs =
-    let yes = c .before in
+    let yes = c .before .before in
     let stages = yes .before .before .before in
     let size = sized-of (headed-of (counted-of stages)) in
-    (zero-within (laid yes) (bytes size) _ _ (stages .fields-in-place .ensures .1 (yes .if4 .taken)), states-are (laid yes))
+    (zero-within (laid yes) (bytes size) _ _ (stages .read-fields .ensures .1 .1 (yes .if4 .taken)), states-are (laid yes))
 
 same-length : tie.Need-same-length
 same-length c = search needs
 
 returns-3 : tie.Need-returns-3
 returns-3 c =
-    let yes = c .before .before in
+    let right = c .before .before in
+    let yes = right .before in
     let stages = yes .before .before .before in
-    let table = table-is (laid yes) _ _ (stages .fields-in-place .ensures .1 (yes .if4 .taken)) in
-    (c .states-no .ensures ∙ sym (then-states (laid yes)), λ _. table)
+    let table = table-is (laid yes) _ _ (stages .read-fields .ensures .1 .1 (yes .if4 .taken)) in
+    let then = then-states (laid yes) _ (stages .read-fields .ensures .1 .0 (yes .if4 .taken)) (right .if5 .taken) in
+    (c .states-no .ensures ∙ sym then, λ _. table)
 
 same-length-2 : tie.Need-same-length-2
 same-length-2 c = search needs
 
 returns-4 : tie.Need-returns-4
 returns-4 c =
-    let stages = c .before .before .before in
-    let n = counted-of stages in
-    let size = sized-of (headed-of n) in
-    let bad = sym (stages .fields-in-place .ensures .0) ∙ c .if4 .left in
-    (no-4 _ _ (size .before .if1 .left) (size .if2 .left) (headed (headed-of n)) _ (counted n) bad, λ z. absurd (omega arith))
+    let yes = c .before in
+    let stages = yes .before .before .before in
+    (no-10 (laid yes) _ (stages .read-fields .ensures .1 .0 (yes .if4 .taken)) (c .if5 .left), λ z. absurd (omega arith))
+
+same-length-3 : tie.Need-same-length-3
+same-length-3 c = search needs
 
 returns-5 : tie.Need-returns-5
 returns-5 c =
+    let stages = c .before .before .before in
+    let n = counted-of stages in
+    let size = sized-of (headed-of n) in
+    let bad = sym (stages .read-fields .ensures .0) ∙ c .if4 .left in
+    (no-4 _ _ (size .before .if1 .left) (size .if2 .left) (headed (headed-of n)) _ (counted n) bad, λ z. absurd (omega arith))
+
+returns-6 : tie.Need-returns-6
+returns-6 c =
     let size = c .before .before in
     let no = sym (c .before .head-in-place .ensures) ∙ c .if3 .left in
     (no-3 _ _ (size .before .if1 .left) (size .if2 .left) no, λ z. absurd (omega arith))
@@ -120,10 +131,12 @@ first-no-spec =
     head-in-place-requires
     get16-requires
     word-to-index-requires
-    fields-in-place-requires
+    read-fields-requires
     states-no-requires
     same-length
     returns-3
     same-length-2
     returns-4
-    returns-5)
+    same-length-3
+    returns-5
+    returns-6)

@@ -11,7 +11,7 @@ use borrow.Fn.Kinds.{In}
 use Rattle.model.specs.Problem.{nodeAt, cellOf, solved}
 use Rattle.model.specs.Read.{problemOf, cellsOf}
 use Rattle.sheet.specs.Sheet.{Terminal, Decision}
-use Rattle.sheet.proofs.Laws.{sheet-length, not-terminal}
+use Rattle.sheet.proofs.Laws.{sheet-length}
 use Rattle.theory.specs.Consistent.{endOf}
 use Rattle.theory.proofs.Turns.{visit-solved}
 use Rattle.search.proofs.Ends.{terminal-end, ends-said}
@@ -84,7 +84,7 @@ module _ (t : ℕ) where
       let x = call-of (c .before) .args in Decision (x .sheet .now) (x .table .now) (x .state)
   decision-at c = record {
     within = call-of (c .before) .pre .1 .0;
-    tag = not-terminal _ (eqb-false _ _ (sym (c .before .is-terminal .ensures) ∙ c .if2 .left));
+    tag = eqb-false _ _ (sym (c .before .is-terminal .ensures) ∙ c .if2 .left);
   }
 
   solved-at-requires : lts.Need-solved-at-requires calls given reads.Post

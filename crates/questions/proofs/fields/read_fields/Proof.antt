@@ -2,32 +2,32 @@
 -- place to place that crosses it by a `.before`, or the answers behind it; one before the loops lengthens `start-of`.
 use Prim.Native.Nat.{suc, _-_, _<_}
 use mathlib.Core.Path.{_≡_, _∙_, sym}
-use mathlib.Core.Bool.{true, false}
+use mathlib.Core.Bool.{false}
 use mathlib.Core.Logic.{_⊎_, inl, inr}
 use native.Mathlib.Omega.{arith}
 use borrow.Author.Needs.{needs}
 use lib.ListN.{length-set, getD, drop}
 use Rattle.model.proofs.TestLaws.{never}
-use Rattle.model.specs.Read.{headerFits, nodesGood}
+use Rattle.model.specs.Read.{nodesGood}
 use Rattle.model.specs.Limits.{maxActions}
-use Rattle.questions.specs.Put.{fieldLength}
+use Rattle.questions.specs.Put.{fieldLength, headerSize}
 use Rattle.questions.proofs.Reading.{ReadingStates, ReadingActions, Turn, reading-begins, reading-ends, terminal-read}
-use Rattle.questions.proofs.Reading.{terminal-out}
+use Rattle.questions.proofs.Reading.{terminal-out, header-fits}
 use Rattle.questions.proofs.Reading.{header-out, reading-actions-begins, decision-read, action-out, action-read}
-use Rattle.questions.proofs.fields.fields_in_place.Statement.{statement}
-use Rattle.questions.proofs.fields.fields_in_place.Tie as tie
+use Rattle.questions.proofs.fields.read_fields.Statement.{statement}
+use Rattle.questions.proofs.fields.read_fields.Tie as tie
 
 abbrev Inv-loop : tie.InvT-loop
-Inv-loop s table states at₀ i n₀ at n = ReadingActions s at₀ at n
+Inv-loop s table states at₀ i counts header size n₀ at n = ReadingActions s at₀ at n
 
 abbrev μ-loop : tie.MeasureT-loop
-μ-loop s table states at₀ i n₀ at n = suc maxActions - n
+μ-loop s table states at₀ i counts header size n₀ at n = suc maxActions - n
 
 abbrev Inv-states : tie.InvT-states
-Inv-states s table₀ states at₀ i₀ table at i = ReadingStates s table₀ states table at i
+Inv-states s table₀ states at₀ i₀ counts₀ table at i counts = ReadingStates s table₀ states table at i counts
 
 abbrev μ-states : tie.MeasureT-states
-μ-states s table₀ states at₀ i₀ table at i = states - i
+μ-states s table₀ states at₀ i₀ counts₀ table at i counts = states - i
 
 -- the call, from the loop over states; that loop, from where a state's tag is read; that place, from the loop over actions; that loop,
 -- from an action's tag; and that tag, from the length of its field
@@ -49,7 +49,7 @@ action-of c = c .before .before
 -- a turn of the loop over states
 turn : (c : tie.After-byte-at Inv-loop μ-loop Inv-states μ-states) → let L = states-of c .states in
     let a = start-of (states-of c) .args in
-    Turn (a .s .now) (a .table .now) (a .states) (L .table) (L .at) (L .i) (c .before .index-to-word .result)
+    Turn (a .s .now) (a .table .now) (a .states) (L .table) (L .at) (L .i) (c .before .index-to-word .result) (L .counts)
 turn c =
     let L = states-of c in
     record {
@@ -59,14 +59,15 @@ turn c =
       entry = c .before .index-to-word .ensures;
     }
 
--- the state is not a terminal, and its own field fits
+-- the state is not a terminal
 no-terminal : (c : tie.Else2 Inv-loop μ-loop Inv-states μ-states) → let L = states-of (c .before) in
     getD (start-of L .args .s .now) (L .states .at) 0 ≡ 2 → ⊥
 no-terminal c e = c .if2 .left (c .before .byte-at .ensures ∙ e)
 
-header : (c : tie.Then4 Inv-loop μ-loop Inv-states μ-states) → let L = states-of (c .before .before .before) in
-    headerFits (drop (L .states .at) (start-of L .args .s .now)) ≡ true
-header c = sym (c .before .header-fits .ensures) ∙ c .if4 .taken
+-- the length of its own field
+sized : (c : tie.After-header-size Inv-loop μ-loop Inv-states μ-states) → let L = states-of (c .before .before) in
+    c .header-size .result ≡ headerSize (drop (L .states .at) (start-of L .args .s .now))
+sized c = c .header-size .ensures .0
 
 -- an action's tag stands at the place of the loop over actions
 action-here : (c : tie.Then5 Inv-loop μ-loop Inv-states μ-states) → let L = actions-of c in
@@ -80,7 +81,8 @@ action-misfit : (c : tie.Then5 Inv-loop μ-loop Inv-states μ-states) → let L 
     nodesGood (a .states) (drop 8 (a .s .now)) ≡ false
 action-misfit c why =
     let L = actions-of c in
-    action-out (turn (header-of L)) (no-terminal (L .before .before .before)) (header (L .before)) (L .loop .inv) (action-here c) why
+    let sizing = L .before .before in
+    action-out (turn (header-of L)) (no-terminal (sizing .before)) _ (sized sizing) (L .before .if4 .taken) (L .loop .inv) (action-here c) why
 
 states-holds : tie.Need-states-holds Inv-loop μ-loop Inv-states μ-states
 states-holds c =
@@ -91,7 +93,7 @@ same-length c = c .before .states .inv .long
 
 returns : tie.Need-returns Inv-loop μ-loop Inv-states μ-states
 returns c =
-    let (answer, table) = reading-ends (c .before .states .inv) (c .if1 .taken) in (answer, λ _. table)
+    let read = reading-ends (c .before .states .inv) (c .if1 .taken) in (read .in-place, (λ _. read .counts, λ _. read .table))
 
 index-to-word-requires : tie.Need-index-to-word-requires Inv-loop μ-loop Inv-states μ-states
 index-to-word-requires c κs =
@@ -111,9 +113,9 @@ add-i c = search needs
 byte-at-requires : tie.Need-byte-at-requires Inv-loop μ-loop Inv-states μ-states
 byte-at-requires c κs = search needs
 
-terminal-fits-requires : tie.Need-terminal-fits-requires Inv-loop μ-loop Inv-states μ-states
-terminal-fits-requires c κs =
-    let L = states-of (c .before) in (L .states .inv .inside, start-of L .pre .2)
+field-fits-requires : tie.Need-field-fits-requires Inv-loop μ-loop Inv-states μ-states
+field-fits-requires c κs =
+    let L = states-of (c .before) in (L .states .inv .inside, start-of L .pre .2, omega arith)
 
 add-at : tie.Need-add-at Inv-loop μ-loop Inv-states μ-states
 add-at c = search needs
@@ -125,30 +127,25 @@ states-again : tie.Need-states-again Inv-loop μ-loop Inv-states μ-states
 states-again c =
     let tag = c .before .before .before in
     let two = sym (tag .byte-at .ensures) ∙ c .before .before .if2 .taken in
-    terminal-read (turn tag) two (sym (c .before .terminal-fits .ensures) ∙ c .if3 .taken)
+    terminal-read (turn tag) two (sym (c .before .field-fits .ensures) ∙ c .if3 .taken)
 
-header-fits-requires : tie.Need-header-fits-requires Inv-loop μ-loop Inv-states μ-states
-header-fits-requires c κs =
+header-size-requires : tie.Need-header-size-requires Inv-loop μ-loop Inv-states μ-states
+header-size-requires c κs =
     let L = states-of (c .before) in (L .states .inv .inside, start-of L .pre .2)
 
 add-at-2 : tie.Need-add-at-2 Inv-loop μ-loop Inv-states μ-states
-add-at-2 c = search needs
+add-at-2 c =
+    let L = states-of (c .before .before .before) in
+    omega (arith, c .before .header-size .ensures .1, L .states .inv .inside, start-of L .pre .2)
 
 loop-holds : tie.Need-loop-holds Inv-loop μ-loop Inv-states μ-states
 loop-holds c =
-    let other = c .before .before in reading-actions-begins (turn (other .before)) (no-terminal other) (header c)
+    let sizing = c .before in
+    let other = sizing .before in
+    reading-actions-begins (turn (other .before)) (no-terminal other) _ (sized sizing) (c .if4 .taken)
 
 byte-at-requires-2 : tie.Need-byte-at-requires-2 Inv-loop μ-loop Inv-states μ-states
 byte-at-requires-2 c κs = search needs
-
-states-less-2 : tie.Need-states-less-2 Inv-loop μ-loop Inv-states μ-states
-states-less-2 c = search needs
-
-states-again-2 : tie.Need-states-again-2 Inv-loop μ-loop Inv-states μ-states
-states-again-2 c =
-    let L = c .before .before in
-    let read = decision-read (turn (header-of L)) (no-terminal (L .before .before .before)) (header (L .before)) (L .loop .inv) in
-    read (λ e. c .if5 .left (c .before .byte-at2 .ensures ∙ e))
 
 add-n : tie.Need-add-n Inv-loop μ-loop Inv-states μ-states
 add-n c = search needs
@@ -173,6 +170,26 @@ loop-again c =
     let few : L .loop .n < maxActions = omega (arith, L .loop .inv .upto, c .before .before .if6 .left) in
     action-read (L .loop .inv) few (action-here one) (c .before .action-length .ensures .0) (omega arith)
 
+counts-right-requires : tie.Need-counts-right-requires Inv-loop μ-loop Inv-states μ-states
+counts-right-requires c κs =
+    let L = c .before .before in
+    let sizing = L .before .before in
+    let at = states-of (sizing .before .before) in
+    let fits = header-fits _ _ (sized sizing) (L .before .if4 .taken) .0 in
+    ((at .states .inv .inside, start-of at .pre .2), fits)
+
+states-less-2 : tie.Need-states-less-2 Inv-loop μ-loop Inv-states μ-states
+states-less-2 c = search needs
+
+states-again-2 : tie.Need-states-again-2 Inv-loop μ-loop Inv-states μ-states
+states-again-2 c =
+    let L = c .before .before .before in
+    let sizing = L .before .before in
+    let read =
+    decision-read (turn (header-of L)) (no-terminal (sizing .before)) _ (sized sizing) (L .before .if4 .taken) (L .loop .inv)
+    (λ e. c .before .if5 .left (c .before .before .byte-at2 .ensures ∙ e)) in
+    rw (c .counts-right .ensures) read
+
 same-length-2 : tie.Need-same-length-2 Inv-loop μ-loop Inv-states μ-states
 same-length-2 c =
     simp length-set (states-of (c .before .before .before) .states .inv .long)
@@ -181,7 +198,7 @@ returns-2 : tie.Need-returns-2 Inv-loop μ-loop Inv-states μ-states
 returns-2 c =
     let tag = c .before .before .before in
     let two = sym (tag .byte-at .ensures) ∙ c .before .before .if2 .taken in
-    (sym (terminal-out (turn tag) two (sym (c .before .terminal-fits .ensures) ∙ c .if3 .left)), λ z. never z)
+    (sym (terminal-out (turn tag) two (sym (c .before .field-fits .ensures) ∙ c .if3 .left)), (λ z. never z, λ z. never z))
 
 same-length-3 : tie.Need-same-length-3 Inv-loop μ-loop Inv-states μ-states
 same-length-3 c =
@@ -190,7 +207,7 @@ same-length-3 c =
 returns-3 : tie.Need-returns-3 Inv-loop μ-loop Inv-states μ-states
 returns-3 c =
     let L = actions-of (c .before) in
-    (sym (action-misfit (c .before) (inl (omega (arith, L .loop .inv .upto, c .if6 .taken)))), λ z. never z)
+    (sym (action-misfit (c .before) (inl (omega (arith, L .loop .inv .upto, c .if6 .taken)))), (λ z. never z, λ z. never z))
 
 same-length-4 : tie.Need-same-length-4 Inv-loop μ-loop Inv-states μ-states
 same-length-4 c =
@@ -198,7 +215,7 @@ same-length-4 c =
 
 returns-4 : tie.Need-returns-4 Inv-loop μ-loop Inv-states μ-states
 returns-4 c =
-    (sym (action-misfit (action-of (c .before)) (inr (omega (arith, c .before .action-length .ensures .0)))), λ z. never z)
+    (sym (action-misfit (action-of (c .before)) (inr (omega (arith, c .before .action-length .ensures .0)))), (λ z. never z, λ z. never z))
 
 same-length-5 : tie.Need-same-length-5 Inv-loop μ-loop Inv-states μ-states
 same-length-5 c =
@@ -206,12 +223,13 @@ same-length-5 c =
 
 returns-5 : tie.Need-returns-5 Inv-loop μ-loop Inv-states μ-states
 returns-5 c =
-    let other = c .before .before in
-    let unfit = sym (c .before .header-fits .ensures) ∙ c .if4 .left in
-    (sym (header-out (turn (other .before)) (no-terminal other) unfit), λ z. never z)
+    let sizing = c .before in
+    let other = sizing .before in
+    let none : sizing .header-size .result ≡ 0 = omega (arith, c .if4 .left) in
+    (sym (header-out (turn (other .before)) (no-terminal other) _ (sized sizing) none), (λ z. never z, λ z. never z))
 
-pub fields-in-place-spec : {M : Type 1} → statement M
-fields-in-place-spec =
+pub read-fields-spec : {M : Type 1} → statement M
+read-fields-spec =
     tie.close
     (tie.spec
     Inv-loop
@@ -226,21 +244,22 @@ fields-in-place-spec =
     slice-write-table
     add-i
     byte-at-requires
-    terminal-fits-requires
+    field-fits-requires
     add-at
     states-less
     states-again
-    header-fits-requires
+    header-size-requires
     add-at-2
     loop-holds
     byte-at-requires-2
-    states-less-2
-    states-again-2
     add-n
     action-length-requires
     add-at-3
     loop-less
     loop-again
+    counts-right-requires
+    states-less-2
+    states-again-2
     same-length-2
     returns-2
     same-length-3
