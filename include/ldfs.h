@@ -76,10 +76,10 @@ extern "C" {
 #define LDFS_CHECK_FINDINGS 7 /* 2 bytes each: (length - 4) / 2 of them */
 
 /*
- * What ldfs_solve returns: a refusal, 1 to 10, which is the number of the first question that is answered no [S4, S5]. The questions are put
- * in the order of this list, in which 10 stands behind 4. Each is settled for the whole sheet before the next, so a refusal means that all
- * questions above it here are answered yes, and its own is not. The sheet is as it was. 1 and 9 are about what the host lent; the others are
- * faults of the sheet ..
+ * What ldfs_solve returns: a refusal, 1 to 10, which is the number of the first question that is answered no [S4, S5]. The questions are
+ * put in the order of this list, in which 10 stands behind 4. Each is settled for the whole sheet before the next, so a refusal means that
+ * all questions above it here are answered yes, and its own is not. The sheet is as it was. 1 and 9 are about what the host lent; the
+ * others are faults of the sheet ..
  */
 #define LDFS_REFUSED_ROOM 1     /* [S4.1] the table has fewer than 16,384 bytes, or the result fewer than 24 [S9.6] */
 #define LDFS_REFUSED_SIZE 2     /* [S4.2] the sheet has fewer than 17 bytes, or more than 60,000 */

@@ -80,10 +80,10 @@ static bool action_here(const struct search *w, const uint8_t *at)
     return at < end_of(w) && at[0] == ACTION;
 }
 
-/* behind the junction's own field, whose length is that of its form */
+/* behind the junction's own field, whose length is that of its form; it is read where that is not plain, so that no address waits for it */
 static const uint8_t *first_action(const uint8_t *decision)
 {
-    return decision + 3 + decision[2];
+    return decision[0] == PLAIN ? decision + 9 : decision + 3 + decision[2];
 }
 
 static const uint8_t *next_action(const uint8_t *action)

@@ -1,10 +1,9 @@
 -- What is written reads back.
 use Prim.Native.Nat.{ℕ, zero, suc, _+_, _-_, _/_, _<_, _≤_}
 use mathlib.Core.Path.{_≡_, refl, ap, sym}
-use mathlib.Core.Bool.{true, false}
+use mathlib.Core.Bool.{true}
 use mathlib.Core.List.{List, [], _∷_, _++_, append-assoc}
 use native.Mathlib.Omega.{arith}
-use lib.Dec.{eqb}
 use borrow.Author.Tests.{eq-eqb, ne-eqb, le-leb, lt-ltb}
 use lib.ListN.{length, getD, drop, length-append}
 use lib.Seq.{drop-at, drop-drop}
@@ -12,7 +11,7 @@ use Rattle.model.proofs.TestLaws.{true-all}
 use Rattle.model.specs.Tests.{also, all}
 use Rattle.model.specs.Problem.{Kind, worst, whole, Action, Form, plain, counted, Node, terminal, decision, Problem, Cell, cell}
 use Rattle.model.specs.Problem.{states, cellOf}
-use Rattle.model.specs.Format.{be16, be32, terminalTag, decisionTag, actionTag, terminalLength, decisionLength, actionLength}
+use Rattle.model.specs.Format.{be16, be32, decisionTag, actionTag, terminalLength, decisionLength, actionLength}
 use Rattle.model.specs.Format.{successorsBytes, actionBytes, actionsBytes, formBytes, nodeBytes}
 use Rattle.model.specs.Format.{nodesBytes, kindByte, write}
 use Rattle.model.specs.Limits.{maxStates, maxActions}
@@ -22,7 +21,7 @@ use Rattle.model.specs.Read.{problemOf, cellsOf}
 use Rattle.model.specs.Questions.{question3, question4}
 use Rattle.layout.specs.Shape.{FewSuccessors, ActionsShaped, NodesShaped, ChosenShaped, Shaped}
 use Rattle.layout.proofs.Bytes.{two, four}
-use Rattle.layout.proofs.Places.{action-length, past-header, no-action}
+use Rattle.layout.proofs.Places.{action-length, past-header, other-tag, no-action}
 
 -- The byte of a kind.
 pub kind-back : (k : Kind) → kindOf (kindByte k) ≡ k
@@ -90,11 +89,6 @@ unfolding headerFits fieldFits formRead nodeBytes decisionTag decisionLength for
 header-fits plain acts c r = rw (le-leb 9 (length (nodeBytes (decision plain acts) c ++ r)) (omega arith))
 header-fits (counted n) acts c r = rw (le-leb 10 (length (nodeBytes (decision (counted n) acts) c ++ r)) (omega arith))
 
-other-tag : (form : Form) → eqb (decisionTag form) terminalTag ≡ false
-unfolding decisionTag
-other-tag plain = refl
-other-tag (counted n) = refl
-
 -- States: they are in place, and their nodes and their cells read back.
 abbrev NodesBack : List Node → List Cell → Type 0
 NodesBack ns cells =
@@ -116,7 +110,7 @@ nodes-back (decision form acts ∷ ns) (c ∷ cells) e h ch =
     let rest = nodesBytes ns cells in
     let ih = nodes-back ns cells (omega arith) (h .1) (λ s lt. ch (suc s) (omega arith)) in
     let a = actions-back rest (no-action ns cells) maxActions acts (h .0 .0) (h .0 .1) in
-    rw (header-fits form acts c rest, form-back form acts c rest, past-header form acts c rest, other-tag form, a .0, a .1, a .2)
+    rw (header-fits form acts c rest, form-back form acts c rest, past-header form acts c rest, ne-eqb _ _ (other-tag form), a .0, a .1, a .2)
     (rw (four (c .value), ih .1, ih .2) (ih .0, refl, refl))
 
 module _ (p : Problem) (cells : List Cell) (h : Shaped p cells) where

@@ -76,7 +76,8 @@ module _ (p : Problem) (cells : List Cell) (s : ℕ) (lt : s < states p) {form :
   before =
       rw (is, add-assoc, take-add, from-state p cells s lt, is, own-field, append-assoc, ← own-length form (cellOf cells s))
       (rw take-append-add
-      (ap (λ (l : List ℕ). take (offset p s) (write p cells) ++ (field ++ l)) (until-action acts (behind (p .nodes) cells s) i (omega arith))))
+      (ap (λ (l : List ℕ). take (offset p s) (write p cells) ++ (field ++ l))
+      (until-action acts (behind (p .nodes) cells s) i (omega arith))))
 
   after : drop (actionOffset p s i + actionSize (actionAt acts i)) (write p cells) ≡
       actionsBytes (drop (suc i) acts) ++ behind (p .nodes) cells s

@@ -128,7 +128,8 @@ module _ (s : List ℕ) (bytes : Bytes s) (entries : ℕ) where
   lines-once = each-once (problemOf s) (cellsOf after) (states (problemOf s))
 
   -- S10.3: what a junction's line names by `by` is the dearest finding of its chosen check (S2.9), by the values as work left them
-  pub line-names : number (answer .outcome) ≡ 100 → (t : ℕ) {form : Form} (acts : List Action) → nodeAt (problemOf s) t ≡ decision form acts →
+  pub line-names : number (answer .outcome) ≡ 100 → (t : ℕ) {form : Form} (acts : List Action) →
+      nodeAt (problemOf s) t ≡ decision form acts →
       reached (problemOf s) (cellsOf after) t ≡ true →
       Dearest (valueOf (cellsOf after)) (actionAt acts (cellOf (cellsOf after) t .chosen) .successors)
       (dearestChosen (problemOf s) (cellsOf after) t)

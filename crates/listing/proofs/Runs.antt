@@ -5,7 +5,8 @@ use mathlib.Core.Bool.{true}
 use mathlib.Core.List.{List, [], _∷_}
 use native.Mathlib.Omega.{arith}
 use lib.ListN.{length}
-use Rattle.model.specs.Problem.{worst, Action, Form, Node, terminal, decision, Problem, Cell, states, nodeAt, actionAt, cellOf, valueOf, solved}
+use Rattle.model.specs.Problem.{worst, Action, Form, Node, terminal, decision, Problem, Cell, states, nodeAt, actionAt}
+use Rattle.model.specs.Problem.{cellOf, valueOf, solved}
 use Rattle.model.specs.Problem.{_∈_, here, there}
 use Rattle.model.specs.Limits.{ceiling, noPlan}
 use Rattle.model.specs.QValue.{Dearest}

@@ -21,8 +21,12 @@ use Rattle.model.specs.Report.{outcomeAt, outcomeOf, onRefusal, answerUn
 use Rattle.model.specs.Report.{checkedTable, tableUnder}
 
 -- fields written, and their offsets
+unfoldable computingForms : Unit {0}
+unfolding be16 be32 decisionTag decisionLength formBytes
+computingForms = tt
+
 unfoldable computingBytes : Unit {0}
-unfolding be16 be32 decisionTag decisionLength successorsBytes actionsBytes formBytes nodeBytes nodesBytes kindByte write actionsSize nodeSize offsetsFrom
+unfolding computingForms successorsBytes actionsBytes nodeBytes nodesBytes kindByte write actionsSize nodeSize offsetsFrom
 computingBytes = tt
 
 -- are fields in place?

@@ -20,6 +20,26 @@ pub true-also : (t : Bool) (more : Unit {0} → Bool) → t ≡ true → more tt
 unfolding also
 true-also t more h g = rw h g
 
+-- two tests one of which is known, and three
+also-begin : (b : Bool) → also true (λ _. b) ≡ b
+unfolding also
+also-begin b = refl
+
+pub also-yes : (b : Bool) → also b (λ _. true) ≡ b
+unfolding also
+also-yes true = refl
+also-yes false = refl
+
+pub also-no : (b : Bool) → also b (λ _. false) ≡ false
+unfolding also
+also-no true = refl
+also-no false = refl
+
+pub also-also : (a b : Bool) (more : Unit {0} → Bool) → also a (λ _. also b more) ≡ also (also a (λ _. b)) more
+unfolding also
+also-also true b more = refl
+also-also false b more = refl
+
 abbrev pub Each : List Bool → Type 0
 Each [] = Unit {0}
 Each (t ∷ ts) = (t ≡ true) × Each ts
@@ -55,17 +75,9 @@ true-every (suc n) f h = true-also (every n f) (λ _. f n) (true-every n f (λ i
 
 -- every number below n + 1: 0 first, then those above it
 pub every-first : (n : ℕ) (f : ℕ → Bool) → every (suc n) f ≡ also (f 0) (λ _. every n (λ i. f (suc i)))
-unfolding every also
-every-first zero f = go (f 0)
-  where
-    go : (b : Bool) → b ≡ also b (λ _. true)
-    go true = refl
-    go false = refl
-every-first (suc n) f = rw (every-first n f) (go (f 0) (every n (λ i. f (suc i))) (f (suc n)))
-  where
-    go : (a b c : Bool) → also (also a (λ _. b)) (λ _. c) ≡ also a (λ _. also b (λ _. c))
-    go true b c = refl
-    go false b c = refl
+unfolding every
+every-first zero f = also-begin (f 0) ∙ sym (also-yes (f 0))
+every-first (suc n) f = rw (every-first n f) (sym (also-also (f 0) (every n (λ i. f (suc i))) (λ _. f (suc n))))
 
 pub every-false : (n : ℕ) (f : ℕ → Bool) (i : ℕ) → i < n → f i ≡ false → every n f ≡ false
 every-false n f i lt h = go (every n f) refl

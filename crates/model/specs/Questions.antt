@@ -43,7 +43,8 @@ question3 limit s =
 unfoldable pub question4 : List ℕ → Bool
 question4 s = nodesGood (be16 s statesIn) (drop headSize s)
 
--- S4.10, count: is the number that a counted junction writes the number of its checks?
+-- S4.10, count: is the number that each counted junction writes the number of checks that follow it?
+-- is n the number that is written in a form? In a plain one there is none to be wrong
 unfoldable pub countIs : Form → ℕ → Bool
 countIs plain n = true
 countIs (counted m) n = eqb m n

@@ -12,7 +12,8 @@ use Rattle.model.specs.Problem.{Problem, problem, Cell, cell}
 use Rattle.model.specs.Limits.{maxActions}
 use Rattle.model.specs.Format.{be16, be32, terminalTag, countedTag, decisionTag, actionTag, terminalLength, decisionLength}
 use Rattle.model.specs.Format.{minActionLength, maxActionLength}
-use Rattle.model.specs.Format.{lengthIn, contentIn, kindIn, statesIn, startIn, terminalCostIn, terminalValueIn, decisionValueIn, countIn}
+use Rattle.model.specs.Format.{lengthIn, contentIn, kindIn, statesIn, startIn, terminalCostIn}
+use Rattle.model.specs.Format.{terminalValueIn, decisionValueIn, countIn}
 use Rattle.model.specs.Format.{actionCostIn, successorsIn, costBytes, successorBytes, markBehind, chosenBehind}
 use Rattle.model.specs.Format.{headSize, terminalSize, decisionSize}
 

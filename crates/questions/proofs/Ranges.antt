@@ -29,7 +29,8 @@ both-false false c h = refl
 abbrev chosenFits : Bool → ℕ → ℕ → Bool
 chosenFits marked k m = fork (eqb k 0) (λ _. true) (λ _. fork marked (λ _. ltb k m) (λ _. false))
 
-chosen-fits : (form : Form) (acts : List Action) (c : Cell) → chosenInRange (decision form acts) c ≡ chosenFits (solved c) (c .chosen) (length acts)
+chosen-fits : (form : Form) (acts : List Action) (c : Cell) →
+    chosenInRange (decision form acts) c ≡ chosenFits (solved c) (c .chosen) (length acts)
 unfolding chosenInRange
 chosen-fits form [] c = go (solved c) (eqb (c .chosen) 0) refl
   where

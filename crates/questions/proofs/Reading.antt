@@ -11,7 +11,7 @@ use lib.Dec.{eqb, leb, ltb}
 use borrow.Author.Tests.{eq-eqb, ne-eqb, eqb-true, eqb-false, leb-true, leb-false, le-leb, lt-leb}
 use lib.ListN.{length, getD, set, drop, take, replicate, length-drop, length-set, take-append-drop, replicate-append-replicate}
 use lib.Seq.{take-all, drop-drop, getD-drop, take-suc-set, drop-set-lt}
-use Rattle.model.proofs.TestLaws.{also-true, all-true, all-one}
+use Rattle.model.proofs.TestLaws.{also-true, also-yes, also-also, all-true, all-one}
 use Rattle.model.specs.Tests.{fork, also, all}
 use Rattle.model.specs.Format.{be16, plainTag, countedTag, decisionTag, decisionLength, decisionSize, actionsSize, nodeSize, offsetsFrom}
 use Rattle.model.specs.Format.{minActionLength, maxActionLength}
@@ -31,6 +31,23 @@ leb-left a k n le = by (leb k (n - a)) refl
     by true e = rw e (le-leb (a + k) n (let w = leb-true k (n - a) e in omega arith))
     by false e = rw e (lt-leb (a + k) n (let w = leb-false k (n - a) e in omega arith))
 
+-- two tests, the second of which is known
+all-first : (b : Bool) → all (b ∷ true ∷ []) ≡ b
+unfolding all
+all-first true = refl
+all-first false = refl
+
+all-false : (b : Bool) → all (b ∷ false ∷ []) ≡ false
+unfolding all
+all-false true = refl
+all-false false = refl
+
+-- where there is no room for a field, it does not fit
+pub field-cut : (s : List ℕ) (o m : ℕ) → length s < o + 3 + m → false ≡ fieldFits m (drop o s)
+unfolding fieldFits
+field-cut s o m lt =
+    let short = lt-leb (3 + m) (length s - o) (omega arith) in rw (length-drop o s, short) (sym (all-false (eqb (be16 (drop o s) 1) m)))
+
 pub eqb-left : (a n : ℕ) → a ≤ n → eqb a n ≡ eqb (n - a) 0
 eqb-left a n le = by (eqb a n) refl
   where
@@ -42,14 +59,11 @@ module _ (s : List ℕ) (o n : ℕ) (le : o ≤ length s) (is : n ≡ be16 s (o 
   here : be16 (drop o s) 1 ≡ n
   here = sym (be16-from s o 1) ∙ sym is
 
-  -- a field with a content of m bytes
-  pub field-yes : (m : ℕ) → n ≡ m → leb (o + 3 + m) (length s) ≡ fieldFits m (drop o s)
-  unfolding fieldFits all
-  field-yes m e = rw (here, eq-eqb n m e, length-drop o s, add-assoc o 3 m) (leb-left o (3 + m) (length s) le ∙ sym (all-one _))
-
-  pub field-no : (m : ℕ) → (n ≡ m → ⊥) → false ≡ fieldFits m (drop o s)
-  unfolding fieldFits all
-  field-no m e = rw (here, ne-eqb n m e)
+  -- a field with a content of m bytes, where there is room for it
+  pub field-here : (m : ℕ) → o + 3 + m ≤ length s → eqb n m ≡ fieldFits m (drop o s)
+  unfolding fieldFits
+  field-here m room =
+      let enough = le-leb (3 + m) (length s - o) (omega arith) in rw (here, length-drop o s, enough) (sym (all-first (eqb n m)))
 
   -- the length of an action's field: 0 by the first test that fails
   pub action-low : n < 6 → 0 ≡ fieldLength (drop o s)
@@ -315,16 +329,6 @@ pub record Read (s t₀ : List ℕ) (states : ℕ) (t : List ℕ) (at : ℕ) (ri
   pub counts : right ≡ countsRight (nodesRead states (drop 8 s))
   pub table : t ≡ offsetsFrom 8 (nodesRead states (drop 8 s)) ++ drop states t₀
 
-pub also-yes : (b : Bool) → also b (λ _. true) ≡ b
-unfolding also
-also-yes true = refl
-also-yes false = refl
-
-pub also-no : (b : Bool) → also b (λ _. false) ≡ false
-unfolding also
-also-no true = refl
-also-no false = refl
-
 pub reading-ends : {s t₀ t : List ℕ} {states at i : ℕ} {right : Bool} → ReadingStates s t₀ states t at i right → i ≡ states →
     Read s t₀ states t at right
 unfolding nodesGood nodesRead countsRight
@@ -342,11 +346,6 @@ pub record Turn (s t₀ : List ℕ) (states : ℕ) (t : List ℕ) (at i v : ℕ)
   pub below : i < states
   pub wide : states ≤ length t₀
   pub entry : v ≡ at
-
-also-also : (a b : Bool) (more : Unit {0} → Bool) → also a (λ _. also b more) ≡ also (also a (λ _. b)) more
-unfolding also
-also-also true b more = refl
-also-also false b more = refl
 
 module _ {s t₀ t : List ℕ} {states at i v : ℕ} {right : Bool} (g : Turn s t₀ states t at i v right) where
   h : ReadingStates s t₀ states t at i right

@@ -11,7 +11,8 @@ use lib.ListN.{length, getD, drop, drop-of-length-le}
 use lib.Seq.{drop-cons}
 use Rattle.model.proofs.TestLaws.{true-also, every-true, every-false}
 use Rattle.model.specs.Tests.{also, all, every}
-use Rattle.model.specs.Problem.{Kind, worst, whole, Action, Form, decision, Problem, Cell, states, nodeAt, actionAt, cellOf, valueOf, solved}
+use Rattle.model.specs.Problem.{Kind, worst, whole, Action, Form, decision, Problem, Cell, states, nodeAt, actionAt}
+use Rattle.model.specs.Problem.{cellOf, valueOf, solved}
 use Rattle.model.specs.Format.{terminalTag, formOf, actionTag, tagOf, actionsOf, actionOffset}
 use Rattle.model.specs.Read.{actionFits, actionRead, problemOf, cellsOf}
 use Rattle.model.specs.QValue.{q}

@@ -15,7 +15,9 @@ use model::MAX_ACTIONS;
 use model::format;
 use sheet::convert::byte_to_index;
 use sheet::convert::index_to_word;
+use sheet::convert::word_to_index;
 use sheet::numbers::byte_at;
+use sheet::numbers::get16;
 
 // The length of the content of the field at `at`, 0 where its bytes are not there.
 fn content_at(s: &[u8], at: usize) -> usize
@@ -34,8 +36,8 @@ fn field_fits(s: &[u8], at: usize, n: usize) -> bool
     requires { ⌜ (at ≤ length (now s)) × (length (now s) ≤ maxBytes) × (n < 256) ⌝ }
     ensures { λ r. ⌜ r ≡ fieldFits n (drop at (now (s .entry))) ⌝ }
 {
-    if content_at(s, at) == n {
-        at + format::CONTENT_IN + n <= s.len()
+    if at + format::CONTENT_IN + n <= s.len() {
+        word_to_index(get16(s, at + format::LENGTH_IN)) == n
     } else {
         false
     }
@@ -113,8 +115,8 @@ pub(crate) struct Fields {
     pub(crate) counts: bool,
 }
 
-// Questions 4 and 10, of a sheet whose head says so many states. The first field out of place ends the reading, whichever loop it stands in.
-// Where there is none, the table begins with the states' offsets.
+// Questions 4 and 10, of a sheet whose head says so many states. The first field out of place ends the reading, whichever loop it stands
+// in. Where there is none, the table begins with the states' offsets.
 pub(crate) fn read_fields(s: &[u8], table: &mut [u32], states: usize) -> Fields
     requires { ⌜ (states ≤ length (now table)) × (headSize ≤ length (now s)) × (length (now s) ≤ maxBytes) ⌝ }
     ensures { λ r. ⌜ r .in_place ≡ nodesGood states (drop headSize (now (s .entry))) ⌝ }

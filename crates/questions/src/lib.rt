@@ -91,8 +91,8 @@ fn states_no(sheet: &[u8], table: &[u32], n: usize) -> u32
     }
 }
 
-// The questions about the sheet alone, under a limit of states: the number of the first whose answer is no, 0 where there is none; then the table begins with
-// the states' offsets.
+// The questions about the sheet alone, under a limit of states: the number of the first whose answer is no, 0 where there is none; then the
+// table begins with the states' offsets.
 fn first_no(sheet: &[u8], table: &mut [u32], limit: usize) -> u32
     requires { ⌜ (limit ≤ length (now table)) × (limit ≤ maxStates) ⌝ }
     ensures { λ r. ⌜ r ≡ firstNo (sheetQuestionsUnder limit (now (sheet .entry))) ⌝ }
@@ -143,9 +143,9 @@ fn served(table: &[u32]) -> usize
     }
 }
 
-// The questions about the sheet alone put to any bytes, with any table, under the limit of states that the table serves: a table of fewer than `MAX_STATES`
-// entries does for a sheet of no more states than that. The table's later content is all zero where a question is answered no, and when
-// accepted it begins with the states' offsets and stays as it was past the last state.
+// The questions about the sheet alone put to any bytes, with any table, under the limit of states that the table serves: a table of fewer
+// than `MAX_STATES` entries does for a sheet of no more states than that. The table's later content is all zero where a question is
+// answered no, and when accepted it begins with the states' offsets and stays as it was past the last state.
 pub fn ask(sheet: &[u8], table: &mut [u32]) -> Verdict
     ensures answer { λ r. ⌜ r ≡ verdict (servedRefusal (now (sheet .entry)) (now (table .entry))) ⌝ }
     ensures table { λ _. ⌜ now (table .exit) ≡ askedTable (now (sheet .entry)) (now (table .entry)) ⌝ }
@@ -160,8 +160,8 @@ pub fn ask(sheet: &[u8], table: &mut [u32]) -> Verdict
     }
 }
 
-// Question 1 and these put to any bytes, with any table. The table's later content is unchanged at 1, all zero at any other, and the states'
-// offsets and then zeros when accepted.
+// Question 1 and these put to any bytes, with any table. The table's later content is unchanged at 1, all zero at any other, and the
+// states' offsets and then zeros when accepted.
 pub fn check(sheet: &[u8], table: &mut [u32]) -> Verdict
     ensures answer { λ r. ⌜ r ≡ verdict (sheetRefusal (now (sheet .entry)) (length (now (table .entry)))) ⌝ }
     ensures table { λ _. ⌜ now (table .exit) ≡ checkedTable (now (sheet .entry)) (now (table .entry)) ⌝ }

@@ -4,8 +4,8 @@
 // the word `changed`, which `stdout` has nowhere.
 //
 // The tables of S11 give the lines up to `junction-1-number-2`, but for three. S11.15 and S11.47 say of 16 checks, and S11.15 of 16
-// findings, only that they are accepted; that working them gives `settled 1 2 1` follows from S6: every check costs 1 and every ending 0, so pass 1 finds each price,
-// 1, above the start's value, 0, raises that to 1 and fails, and pass 2 succeeds with no raise.
+// findings, only that they are accepted; that working them gives `settled 1 2 1` follows from S6: every check costs 1 and every ending 0,
+// so pass 1 finds each price, 1, above the start's value, 0, raises that to 1 and fails, and pass 2 succeeds with no raise.
 //
 // The other lines are worked out from S4: each names the question that it is at the limit of. These took a sum
 // besides.
@@ -19,9 +19,9 @@
 // - `A-settled-chosen-0`: the output for A (S11.16) says that the start chose check 1 at 500. Check 0 then costs 200 + 400, since pass 2
 //   raised stage 1 to 400, and 600 is not 500: question 8. Check 2 is out of range: question 5.
 // - `B-settled` has the least costs 150, 30 and 50 of the row B worst. With a finding open again, or at 149, question 8 refuses it.
-// - `-table` lines: the table's entries were 7, 8, 9 and so on. Refusal 1 leaves them (S5.4), 2 to 10 make all of them 0 (S5.5),
-//   past the 4,096th too; accepted or worked (S11.20), the entries are A's offsets 8, 37, 57, 69, or J's 8, 38, 58, 70, and every entry past
-//   the last stage is 0 (S3.5): 4,096 - 4 and 4,200 - 4 of them.
+// - `-table` lines: the table's entries were 7, 8, 9 and so on. Refusal 1 leaves them (S5.4), 2 to 10 make all of them 0 (S5.5), past the
+//   4,096th too; accepted or worked (S11.20), the entries are A's offsets 8, 37, 57, 69, or J's 8, 38, 58, 70, and every entry past the
+//   last stage is 0 (S3.5): 4,096 - 4 and 4,200 - 4 of them.
 mod bytes; // bytes.rt: bytes and blocks of bytes in a buffer
 mod fields; // fields.rt: numbers and fields in a buffer
 mod sheets; // sheets.rt: the sheets of the cases, and blocks of larger ones

@@ -11,7 +11,7 @@ use Rattle.model.specs.Format.{terminalTag, tagOf, actionsOf}
 use Rattle.model.specs.Limits.{noPlan}
 use Rattle.model.specs.Ldfs.{finish}
 use Rattle.sheet.specs.Sheet.{terminalCost}
-use Rattle.sheet.proofs.Laws.{other-tag}
+use Rattle.layout.proofs.Places.{other-tag}
 use Rattle.theory.specs.Consistent.{endOf, WellFormed}
 use Rattle.theory.proofs.Turns.{visit-end}
 use Rattle.search.specs.declared.visits.Visited.{Visited}

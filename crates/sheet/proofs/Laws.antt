@@ -9,27 +9,22 @@ use borrow.Author.Tests.{eqb-true, eqb-false, lt-ltb, le-ltb}
 use lib.Dec.{eqb, ltb}
 use lib.ListN.{length, getD, set, drop, length-set, length-append, List·getD-append}
 use lib.Seq.{getD-set-same, getD-set-other, set-set}
-use Rattle.model.specs.Problem.{Action, Form, plain, counted, Node, terminal, decision, Problem, Cell, cell, states, nodeAt, actionAt}
+use Rattle.model.specs.Problem.{Action, plain, counted, Node, terminal, decision, Problem, Cell, cell, states, nodeAt, actionAt}
 use Rattle.model.specs.Problem.{cellOf, setValue, setSolved}
-use Rattle.model.specs.Format.{be32, put32, terminalTag, decisionTag, actionTag, decisionLength, write, nodeSize, actionPlace, tagOf}
+use Rattle.model.specs.Format.{be32, put32, terminalTag, plainTag, decisionTag, actionTag, decisionLength, write}
+use Rattle.model.specs.Format.{nodeSize, actionPlace, tagOf}
 use Rattle.model.specs.Format.{valueIn, valueOffset, actionsOf, formOf, actionOffset, offsetsFrom}
 use Rattle.model.specs.Read.{actionFits, actionRead, problemOf, cellsOf}
 use Rattle.model.specs.Limits.{maxActions, maxSuccessors}
 use Rattle.layout.specs.Shape.{FewSuccessors, NodeShaped, ChosenShaped, Shaped, setMark, setChosen}
 use Rattle.layout.proofs.Index.{offsets-count, index-is}
-use Rattle.layout.proofs.Places.{form-length, write-length}
+use Rattle.layout.proofs.Places.{form-length, other-tag, write-length}
 use Rattle.layout.proofs.Shapes.{node-shaped, action-shaped}
 use Rattle.layout.proofs.Fields.{state-room, value-room, tag-at, value-at, mark-at, value-stored, mark-stored, cost-at}
 use Rattle.layout.proofs.Fields.{header-length-at, chosen-at, chosen-stored, action-tag-at, action-next, after-last}
 use Rattle.layout.proofs.Back.{problem-back, cells-back}
 use Rattle.layout.proofs.Actions.{content-of, count-of, written-action, written-fits}
 use Rattle.sheet.specs.Sheet.{Sheet, Within, Terminal, Decision, Priced, terminalCost}
-
--- a decision is no terminal
-pub other-tag : (form : Form) → decisionTag form ≡ terminalTag → ⊥
-unfolding decisionTag
-other-tag plain e = omega arith
-other-tag (counted n) e = omega arith
 
 -- A node by its tag, and where the value stands in its field.
 pub is-terminal : (n : Node) → tagOf n ≡ terminalTag → n ≡ terminal (terminalCost n)
@@ -57,6 +52,13 @@ nine-inside : (n : Node) → 9 ≤ nodeSize n
 unfolding nodeSize
 nine-inside (terminal cost) = omega arith
 nine-inside (decision form acts) = omega (arith, form-length form)
+
+-- a node with the tag of a plain decision has the length of one
+plain-length : (n : Node) → tagOf n ≡ plainTag → decisionLength (formOf n) ≡ 6
+unfolding tagOf formOf decisionTag decisionLength
+plain-length (terminal cost) e = absurd (omega arith)
+plain-length (decision plain acts) e = refl
+plain-length (decision (counted n) acts) e = absurd (omega arith)
 
 own-inside : (n : Node) → (tagOf n ≡ terminalTag → ⊥) → 3 + decisionLength (formOf n) ≤ nodeSize n
 unfolding tagOf formOf nodeSize
@@ -204,15 +206,23 @@ module _ {s t : List ℕ} {p : Problem} {cells : List Cell} (h : Sheet s t p cel
     pub chosen-of : getD s (valueOffset p i + 5) 0 ≡ cellOf cells i .chosen
     chosen-of = rw (h .is) (chosen-at p cells i lt (actionsOf (nodeAt p i)) (is-decision (nodeAt p i) tag))
 
-    -- its first action stands behind a content of as many bytes as the second byte of its length says
-    pub first-action-at : (o n : ℕ) → o ≡ getD t i 0 → n ≡ getD s (o + 2) 0 →
+    -- its first action stands behind its own field: behind six bytes of content where it has the tag of a plain one, and else behind as
+    -- many as the second byte of its length says
+    own-behind : (o n : ℕ) → o ≡ getD t i 0 → n ≡ decisionLength (formOf (nodeAt p i)) →
         (o + 3 + n ≡ actionOffset p i 0) × (o + 3 + n ≤ length s)
     unfolding actionOffset actionPlace
-    first-action-at o n here is =
+    own-behind o n here says = omega (arith, long, h .table i lt, state-room p cells i lt, own-inside (nodeAt p i) tag)
+
+    pub first-of-plain : (o : ℕ) → o ≡ getD t i 0 → getD s o 0 ≡ plainTag → (o + 9 ≡ actionOffset p i 0) × (o + 9 ≤ length s)
+    first-of-plain o here e =
+        let six = plain-length (nodeAt p i) (sym tag-of ∙ rw here at e) in omega (arith, own-behind o 6 here (sym six))
+
+    pub first-by-length : (o n : ℕ) → o ≡ getD t i 0 → n ≡ getD s (o + 2) 0 →
+        (o + 3 + n ≡ actionOffset p i 0) × (o + 3 + n ≤ length s)
+    first-by-length o n here is =
         let node = is-decision (nodeAt p i) tag in
-        let says : n ≡ decisionLength (formOf (nodeAt p i)) =
-        is ∙ rw (here, h .table i lt, h .is) (header-length-at p cells i lt (actionsOf (nodeAt p i)) node) in
-        omega (arith, long, h .table i lt, state-room p cells i lt, own-inside (nodeAt p i) tag)
+        own-behind o n here
+        (is ∙ rw (here, h .table i lt, h .is) (header-length-at p cells i lt (actionsOf (nodeAt p i)) node))
 
     pub with-chosen : (k : ℕ) → Sheet (set s (valueOffset p i + 5) k) t p (setChosen cells i k)
     with-chosen k =

@@ -143,8 +143,8 @@ module _ (p : Problem) (cells : List Cell) (h : Asked p cells) where
               rw (← same) (none-chosen, leb-true _ _ (range .0), λ sol. eqb-true _ _ (rw (sol, e) at eight))
           ends (decision form (a ∷ more)) e x f = not-some refl f
 
-          settled : {form : Form} (acts : List Action) → nodeAt p s ≡ decision form acts → 0 < length acts → solved (cellOf cells s) ≡ true →
-              Settles p cells s (cellOf cells s .chosen) acts
+          settled : {form : Form} (acts : List Action) → nodeAt p s ≡ decision form acts → 0 < length acts →
+              solved (cellOf cells s) ≡ true → Settles p cells s (cellOf cells s .chosen) acts
           settled [] e has sol = absurd (omega arith)
           settled {form} (a ∷ more) e has sol = let b = all-true _ (rw (sol, e) at eight) in
               record {

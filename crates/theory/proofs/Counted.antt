@@ -81,7 +81,8 @@ forms-kept s bytes entries budget t = go (refusal s entries budget) refl
     go : (n : ℕ) → refusal s entries budget ≡ n →
         formOf (nodeAt (problemOf (bytesAfter s entries budget)) t) ≡ formOf (nodeAt (problemOf s) t)
     go zero e =
-        let acc : Accepted s = record { bytes = bytes; yes = unrefused s entries budget e } in same _ (still-a-sheet s acc entries budget .1)
+        let acc : Accepted s = record { bytes = bytes; yes = unrefused s entries budget e } in
+        same _ (still-a-sheet s acc entries budget .1)
     go (suc n) e = same _ (ap problemOf (bytes-refused s entries budget n e))
 
 -- A junction that writes the number of its checks right writes it wrong once it has lost one.

@@ -151,7 +151,8 @@ less-J = refl
 pub loss-J : refusal (withoutCheck (sheetJ 2) 0 1) maxStates largest ≡ 10
 unfolding computing
 loss-J =
-    loss-refused (sheetJ 2) accepted-J 0 1 2 (action 200 (1 ∷ 3 ∷ []) ∷ action 500 (3 ∷ []) ∷ []) refl (lit< tt) maxStates largest (omega arith)
+    let checks = action 200 (1 ∷ 3 ∷ []) ∷ action 500 (3 ∷ []) ∷ [] in
+    loss-refused (sheetJ 2) accepted-J 0 1 2 checks refl (lit< tt) maxStates largest (omega arith)
 
 -- A limit of 4 accepts sheet A, which has as many stages, and one of 3 refuses it; so a raised limit speaks of it
 pub limits-A : (refusalUnder 3 sheetA 3 largest ≡ 3) × (refusalUnder 4 sheetA 4 largest ≡ 0)

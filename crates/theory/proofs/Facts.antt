@@ -51,8 +51,9 @@ module _ (p : Problem) (budget n s : ℕ) (w : Search) (isOpen : solvedAt w s �
   all-pass a le (t ∷ ts) h = rw (h t here, le-ltb (valueAt w s) (priceAt p w a) le) (all-pass a le ts (λ u m. h u (there m)))
 
   -- and so is a decision whose first action has its price for a value and its successors solved
-  pub decision-marked : {form : Form} (a : Action) (more : List Action) → nodeAt p s ≡ decision form (a ∷ more) → priceAt p w a ≤ valueAt w s →
-      ((t : ℕ) → t ∈ a .successors → solvedAt w t ≡ true) → visit p budget (suc (suc n)) s w ≡ success (marked s 0 w)
+  pub decision-marked : {form : Form} (a : Action) (more : List Action) → nodeAt p s ≡ decision form (a ∷ more) →
+      priceAt p w a ≤ valueAt w s → ((t : ℕ) → t ∈ a .successors → solvedAt w t ≡ true) →
+      visit p budget (suc (suc n)) s w ≡ success (marked s 0 w)
   unfolding visitBy visitOpenBy tryAllBy tryOneBy ifDearBy onTest onVisit
   decision-marked a more node le below = rw (isOpen, node, le-ltb (valueAt w s) (priceAt p w a) le, all-pass a le (a .successors) below)
 

@@ -120,8 +120,9 @@ module _ (s : List ℕ) (acc : Accepted s) where
   -- 5: S2.10, where the sheet is whole and action i of decision t lists the state u n times, once or more, and no other: it costs its
   -- cost plus n times what u costs, by V* and by any costs, and none where that is none; that is its price, up to the ceiling; a policy
   -- that takes it costs so much; and where the decision is solved by it, that is the decision's value, by V* and as written
-  module _ (is : problemOf s .kind ≡ whole) (t i n u : ℕ) {form : Form} (acts : List Action) (node : nodeAt (problemOf s) t ≡ decision form acts)
-      (exists : i < length acts) (often : 0 < n) (only : actionAt acts i .successors ≡ replicate n u) where
+  module _ (is : problemOf s .kind ≡ whole) (t i n u : ℕ) {form : Form} (acts : List Action)
+      (node : nodeAt (problemOf s) t ≡ decision form acts) (exists : i < length acts) (often : 0 < n)
+      (only : actionAt acts i .successors ≡ replicate n u) where
     pub check-pays : (v : ℕ → Cost) →
         qFull (problemOf s .kind) v (actionAt acts i) ≡ both _+_ (some (actionAt acts i .cost)) (times n (v u))
     check-pays = only-counts (problemOf s .kind) is (actionAt acts i) n u often only

@@ -301,8 +301,9 @@ module _ (p : Problem) (wf : WellFormed p) (budget : ℕ) where
       (λ t w′ lt tn r. visit-does k t w′ (omega arith) tn r) state (nodeAt p s) refl w ready e)
 
   -- an action of s that is tried and abandoned leaves s and the states before it alone
-  pub abandoned-leads : (s i : ℕ) {form : Form} (acts : List Action) → nodeAt p s ≡ decision form acts → (w w′ : Search) → Ready p budget w →
-      priceAt p w (actionAt acts i) ≤ valueAt w s → tryOne p budget (visit p budget (states p)) s acts i failure w ≡ failure w′ →
+  pub abandoned-leads : (s i : ℕ) {form : Form} (acts : List Action) → nodeAt p s ≡ decision form acts → (w w′ : Search) →
+      Ready p budget w → priceAt p w (actionAt acts i) ≤ valueAt w s →
+      tryOne p budget (visit p budget (states p)) s acts i failure w ≡ failure w′ →
       Leads p budget (suc s) w w′
   unfolding tryOneBy onVisit
   abandoned-leads s i acts node w w′ ready le =

@@ -5,7 +5,8 @@ use mathlib.Core.Bool.{true, false}
 use mathlib.Core.Option.{Option, none, some}
 use mathlib.Core.List.{List, [], _∷_}
 use lib.ListN.{length}
-use Rattle.model.specs.Problem.{Action, Form, Node, terminal, decision, Problem, Cell, states, nodeAt, actionAt, cellOf, valueOf, solved, _∈_}
+use Rattle.model.specs.Problem.{Action, Form, Node, terminal, decision, Problem, Cell, states, nodeAt, actionAt, cellOf}
+use Rattle.model.specs.Problem.{valueOf, solved, _∈_}
 use Rattle.model.specs.Limits.{ceiling, noPlan}
 use Rattle.model.specs.QValue.{q}
 

@@ -106,10 +106,15 @@ impl Search<'_> {
         self.get32(self.offset(state) + 3)
     }
 
-    /// Behind the junction's own field, whose length is that of its form.
+    /// Behind the junction's own field, whose length is that of its form; it is read where that is not plain, so that no place
+    /// waits for it.
     fn first_action(&self, state: usize) -> usize {
         let at = self.offset(state);
-        at + 3 + usize::from(self.bytes[at + 2])
+        if self.bytes[at] == PLAIN {
+            at + 9
+        } else {
+            at + 3 + usize::from(self.bytes[at + 2])
+        }
     }
 
     fn action_here(&self, at: usize) -> bool {

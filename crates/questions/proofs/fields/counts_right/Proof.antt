@@ -6,8 +6,9 @@ use lib.Dec.{eqb}
 use lib.ListN.{getD, drop}
 use Rattle.model.specs.Read.{formRead}
 use Rattle.model.specs.Questions.{countIs}
+use Rattle.model.proofs.TestLaws.{also-yes, also-no}
 use Rattle.model.specs.Format.{countedTag}
-use Rattle.questions.proofs.Reading.{tag-inside, count-inside, count-counted, count-plain, also-yes, also-no}
+use Rattle.questions.proofs.Reading.{tag-inside, count-inside, count-counted, count-plain}
 use Rattle.questions.proofs.fields.counts_right.Statement.{statement}
 use Rattle.questions.proofs.fields.counts_right.Tie as tie
 

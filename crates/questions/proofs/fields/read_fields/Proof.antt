@@ -82,7 +82,8 @@ action-misfit : (c : tie.Then5 Inv-loop μ-loop Inv-states μ-states) → let L 
 action-misfit c why =
     let L = actions-of c in
     let sizing = L .before .before in
-    action-out (turn (header-of L)) (no-terminal (sizing .before)) _ (sized sizing) (L .before .if4 .taken) (L .loop .inv) (action-here c) why
+    let out = action-out (turn (header-of L)) (no-terminal (sizing .before)) _ (sized sizing) (L .before .if4 .taken) in
+    out (L .loop .inv) (action-here c) why
 
 states-holds : tie.Need-states-holds Inv-loop μ-loop Inv-states μ-states
 states-holds c =
