@@ -164,7 +164,7 @@ cleared t = take 0 t ++ replicate (length t - 0) 0
 pub cleared-zeros : (t : List ℕ) → cleared t ≡ replicate (length t) 0
 cleared-zeros t = let z : length t - 0 ≡ length t = omega arith in rw z
 
--- The verdict, and the table once questions 2 to 8 have been put under the limit that it serves.
+-- The verdict, and the table once the questions about the sheet have been put under the limit that it serves.
 module _ (s t : List ℕ) where
   -- question 1 is answered yes
   refusal-is : servedRefusal s t ≡ firstNo (sheetQuestionsUnder (servedBy (length t)) s)

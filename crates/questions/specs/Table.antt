@@ -22,6 +22,6 @@ servedBy entries = min entries maxStates
 abbrev pub servedRefusal : List ℕ → List ℕ → ℕ
 servedRefusal s t = sheetRefusalUnder (servedBy (length t)) s (length t)
 
--- the table's content once questions 2 to 8 have been put to the sheet s under that limit, but for the clearing past the last state
+-- the table's content once the questions about the sheet s have been put under that limit, but for the clearing past the last state
 unfoldable pub askedTable : List ℕ → List ℕ → List ℕ
 askedTable s t = onRefusal (servedRefusal s t) (λ _. indexedBefore s t) (refusedTable t)

@@ -17,7 +17,8 @@ unfoldable pub verdict : ℕ → Verdict
 verdict zero = Accepted
 verdict (suc n) = Refused (suc n)
 
--- What a verdict of that number says of questions 1 to 8: accepted, 0, that every answer is yes; else the number of the first that is no.
+-- What a verdict of that number says of all questions but that on the budget: accepted, 0, that every answer is yes; else the number of
+-- the first that is no.
 pub data VerdictSays (s : List ℕ) (entries : ℕ) (n : ℕ) : Type 0 where
   accepted : ((i : ℕ) → answerAt (checkQuestions s entries) i ≡ true) → n ≡ 0 → VerdictSays s entries n
   refused : First (checkQuestions s entries) n → VerdictSays s entries n

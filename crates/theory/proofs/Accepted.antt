@@ -1,4 +1,4 @@
--- Yes to questions 3 to 8 is what the theory supposes, and what work keeps.
+-- Yes to questions 3 to 8 is what the theory supposes, and what work keeps, with that to question 10.
 use Prim.Native.Nat.{ℕ, _+_, _<_, _≤_}
 use mathlib.Core.Path.{_≡_, refl, ap, subst}
 use mathlib.Core.Bool.{Bool, true, false}

@@ -40,7 +40,7 @@ pub all-right : (p : Problem) → allPlain p ≡ true → question10 p ≡ true
 unfolding question10
 all-right p h = true-every _ _ (λ s l. plain-right _ (every-true _ _ h s l))
 
--- So bytes without a counted junction are refused as they were, and by what question 4 refuses the others are, too.
+-- So bytes without a counted junction are refused as they were; and what question 4 refuses today it refused then.
 module _ (limit : ℕ) (s : List ℕ) (un : Uncounted s) where
   same-refusal : (entries budget : ℕ) → refusalUnder limit s entries budget ≡ plainRefusal limit s entries budget
   unfolding refusalUnder plainRefusal firstNo instead also
@@ -107,6 +107,9 @@ module _ (s : List ℕ) (acc : Accepted s) (t i n : ℕ) (acts : List Action)
   less-below : t < states less
   less-below = rw length-set below
 
+  less-at : nodeAt less t ≡ decision (counted n) (lessAction acts i)
+  less-at = less-node (problemOf s) (cellsOf s) (stands .asked .shaped) t below acts is i li
+
   shaped : Shaped less (cellsOf s)
   shaped = less-shaped (problemOf s) (cellsOf s) (stands .asked .shaped) t below acts is i li
 
@@ -130,16 +133,12 @@ module _ (s : List ℕ) (acc : Accepted s) (t i n : ℕ) (acts : List Action)
       let fits : length s ≤ maxBytes = leb-true (length s) maxBytes (all-true _ (stands .size) .1 .0) in
       let most : length (withoutCheck s t i) ≤ maxBytes = rw (length-append, length-take, length-drop) (omega arith) in
       true-all _ (le-leb minBytes _ enough, (le-leb _ maxBytes most, tt))
-    where
-      less-at : nodeAt less t ≡ decision (counted n) (lessAction acts i)
-      less-at = less-node (problemOf s) (cellsOf s) (stands .asked .shaped) t below acts is i li
 
   left-count : question10 (problemOf (withoutCheck s t i)) ≡ false
   unfolding question10
   left-count =
       let right = rw is at (every-true _ _ (stands .asked .ten) t below) in
-      let at = less-node (problemOf s) (cellsOf s) (stands .asked .shaped) t below acts is i li in
-      rw left-problem (every-false (states less) _ t less-below (rw at (count-wrong n acts i li right)))
+      rw left-problem (every-false (states less) _ t less-below (rw less-at (count-wrong n acts i li right)))
 
   left-refused : (entries budget : ℕ) → maxStates ≤ entries → refusal (withoutCheck s t i) entries budget ≡ 10
   unfolding refusalUnder firstNo question1
@@ -149,4 +148,4 @@ module _ (s : List ℕ) (acc : Accepted s) (t i n : ℕ) (acts : List Action)
       rw (le-leb maxStates entries room, left-size, head, body, left-count)
 
 pub loss-refused : (s : List ℕ) → Accepted s → LossRefused s
-loss-refused s acc t i n acts is li entries budget room = left-refused s acc t i n acts is li entries budget room
+loss-refused s acc t i n acts is li = left-refused s acc t i n acts is li

@@ -157,7 +157,7 @@ module _ (s : List ℕ) (acc : Accepted s) where
     pub raises-few : answerTo s entries budget .raises ≤ gaps (problemOf s) (cellsOf s)
     raises-few = omega (arith, raises-gaps s _ (problemOf s) (cellsOf s) (called .next) _ stands (called .stands) (called .kept))
 
-    -- 8: the bytes after it pass questions 2 to 8 again, with the same problem
+    -- 8: the bytes after it pass every question about the sheet again, with the same problem
     pub still-a-sheet : Accepted (bytesAfter s entries budget) × (problemOf (bytesAfter s entries budget) ≡ problemOf s)
     still-a-sheet = (
       record { bytes = called .stands .bytes; yes = stands-accepted _ (problemOf s) (called .next) (called .stands) },
