@@ -201,16 +201,22 @@ static void expect_rest_of_table(size_t from, uint8_t left_over)
         expect(table[i] == left_over, "bytes left over are not touched");
 }
 
-/* Sheet A in one call: the price, the index table, and the plan. */
+/* Sheet A or J in one call: the price, and the index table, whose entries are these offsets. */
+static void at_once(const char *what, uint8_t *sheet, size_t length, const uint32_t *offsets)
+{
+    memset(table, 7, sizeof table);
+    solve_expecting(what, sheet, length, UINT64_MAX, LDFS_SETTLED, 500, 3, 3);
+    for (size_t i = 0; i < A_STAGES; i++)
+        expect(little(table + LDFS_ENTRY_BYTES * i, LDFS_ENTRY_BYTES) == offsets[i], "offset of a stage");
+    expect_rest_of_table(A_STAGES, 7);
+}
+
+/* Sheet A in one call, and the plan. */
 static void sheet_a_at_once(void)
 {
     uint8_t sheet[sizeof sheet_a];
     memcpy(sheet, sheet_a, sizeof sheet);
-    memset(table, 7, sizeof table);
-    solve_expecting("sheet A", sheet, sizeof sheet, UINT64_MAX, LDFS_SETTLED, 500, 3, 3);
-    for (size_t i = 0; i < A_STAGES; i++)
-        expect(little(table + LDFS_ENTRY_BYTES * i, LDFS_ENTRY_BYTES) == offsets_a[i], "offset of a stage");
-    expect_rest_of_table(A_STAGES, 7);
+    at_once("sheet A", sheet, sizeof sheet, offsets_a);
 
     /* The plan takes the chosen check at each junction: check 1 at stage 0, which leads to stage 3, an ending. */
     const uint8_t *first = sheet + little(table, LDFS_ENTRY_BYTES);
@@ -621,11 +627,7 @@ static void sheet_j_at_once(void)
 {
     uint8_t sheet[sizeof sheet_j];
     memcpy(sheet, sheet_j, sizeof sheet);
-    memset(table, 7, sizeof table);
-    solve_expecting("sheet J", sheet, sizeof sheet, UINT64_MAX, LDFS_SETTLED, 500, 3, 3);
-    for (size_t i = 0; i < A_STAGES; i++)
-        expect(little(table + LDFS_ENTRY_BYTES * i, LDFS_ENTRY_BYTES) == offsets_j[i], "offset of a stage");
-    expect_rest_of_table(A_STAGES, 7);
+    at_once("sheet J", sheet, sizeof sheet, offsets_j);
 
     const uint8_t *first = sheet + little(table, LDFS_ENTRY_BYTES);
     const uint8_t *check = past(past(first));

@@ -11,7 +11,7 @@ use Rattle.model.proofs.TestLaws.{true-all}
 use Rattle.model.specs.Tests.{also, all}
 use Rattle.model.specs.Problem.{Kind, worst, whole, Action, Form, plain, counted, Node, terminal, decision, Problem, Cell, cell}
 use Rattle.model.specs.Problem.{states, cellOf}
-use Rattle.model.specs.Format.{be16, be32, decisionTag, actionTag, terminalLength, decisionLength, actionLength}
+use Rattle.model.specs.Format.{be16, be32, terminalTag, decisionTag, actionTag, terminalLength, decisionLength, actionLength}
 use Rattle.model.specs.Format.{successorsBytes, actionBytes, actionsBytes, formBytes, nodeBytes}
 use Rattle.model.specs.Format.{nodesBytes, kindByte, write}
 use Rattle.model.specs.Limits.{maxStates, maxActions}
@@ -110,7 +110,8 @@ nodes-back (decision form acts ∷ ns) (c ∷ cells) e h ch =
     let rest = nodesBytes ns cells in
     let ih = nodes-back ns cells (omega arith) (h .1) (λ s lt. ch (suc s) (omega arith)) in
     let a = actions-back rest (no-action ns cells) maxActions acts (h .0 .0) (h .0 .1) in
-    rw (header-fits form acts c rest, form-back form acts c rest, past-header form acts c rest, ne-eqb _ _ (other-tag form), a .0, a .1, a .2)
+    let tag = ne-eqb _ _ (other-tag form terminalTag refl) in
+    rw (header-fits form acts c rest, form-back form acts c rest, past-header form acts c rest, tag, a .0, a .1, a .2)
     (rw (four (c .value), ih .1, ih .2) (ih .0, refl, refl))
 
 module _ (p : Problem) (cells : List Cell) (h : Shaped p cells) where

@@ -55,16 +55,14 @@ fn header_size(s: &[u8], at: usize) -> usize
         } else {
             0
         }
-    } else {
-        if tag == format::COUNTED_TAG {
-            if field_fits(s, at, format::COUNTED_LENGTH) {
-                format::COUNTED_SIZE
-            } else {
-                0
-            }
+    } else if tag == format::COUNTED_TAG {
+        if field_fits(s, at, format::COUNTED_LENGTH) {
+            format::COUNTED_SIZE
         } else {
             0
         }
+    } else {
+        0
     }
 }
 

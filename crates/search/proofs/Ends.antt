@@ -21,7 +21,7 @@ use Rattle.search.proofs.Updates.{also-said}
 pub terminal-end : (n : Node) → tagOf n ≡ terminalTag → endOf n ≡ some (terminalCost n)
 unfolding tagOf terminalCost
 terminal-end (terminal cost) e = refl
-terminal-end (decision form acts) e = absurd (other-tag form e)
+terminal-end (decision form acts) e = absurd (other-tag form terminalTag refl e)
 
 pub barren-end : (n : Node) → (tagOf n ≡ terminalTag → ⊥) → length (actionsOf n) ≤ 0 → endOf n ≡ some noPlan
 unfolding tagOf actionsOf

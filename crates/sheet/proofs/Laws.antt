@@ -30,7 +30,7 @@ use Rattle.sheet.specs.Sheet.{Sheet, Within, Terminal, Decision, Priced,
 pub is-terminal : (n : Node) → tagOf n ≡ terminalTag → n ≡ terminal (terminalCost n)
 unfolding tagOf terminalCost
 is-terminal (terminal cost) e = refl
-is-terminal (decision form acts) e = absurd (other-tag form e)
+is-terminal (decision form acts) e = absurd (other-tag form terminalTag refl e)
 
 -- a state that is no terminal is a decision
 pub is-decision : (n : Node) → (tagOf n ≡ terminalTag → ⊥) → n ≡ decision (formOf n) (actionsOf n)
@@ -41,7 +41,7 @@ is-decision (decision form acts) e = refl
 terminal-value : (n : Node) → tagOf n ≡ terminalTag → valueIn n ≡ 7
 unfolding tagOf valueIn
 terminal-value (terminal cost) e = refl
-terminal-value (decision form acts) e = absurd (other-tag form e)
+terminal-value (decision form acts) e = absurd (other-tag form terminalTag refl e)
 
 decision-value : (n : Node) → (tagOf n ≡ terminalTag → ⊥) → valueIn n ≡ 3
 unfolding tagOf valueIn
