@@ -1,3 +1,5 @@
+pub mod Decimal
+pub mod Widths
 pub mod Writing
 pub mod Planned
 pub mod Reaching

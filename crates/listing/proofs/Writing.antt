@@ -1,19 +1,22 @@
--- Text written piece behind piece, and numbers in decimal.
-use Prim.Native.Nat.{ℕ, zero, suc, _+_, _/_, _^_, _<_, _≤_}
-use mathlib.Core.Path.{_≡_, refl, ap, sym, _∙_}
+-- Text written piece behind piece, and a number's digits from the last to the first.
+use Prim.Native.Nat.{ℕ, _+_, _-_, _/_, _^_, _<_, _≤_}
+use mathlib.Core.Path.{_≡_, refl, ap, sym, subst, _∙_}
 use mathlib.Core.Bool.{Bool, true, false}
-use mathlib.Core.List.{List, [], _∷_, _++_}
+use mathlib.Core.List.{List, [], _∷_, _++_, append-nil, append-assoc}
 use native.Mathlib.Omega.{arith}
-use native.Mathlib.Nat.{add-zero}
-use borrow.Author.Tests.{lt-ltb, le-ltb, ltb-false}
+use native.Mathlib.Nat.{add-zero, zero-add}
+use borrow.Author.Tests.{ltb-true, ltb-false, le-leb, lt-leb}
 use lib.Dec.{ltb}
 use native.Mathlib.Numerals.{add-one}
 use lib.ListN.{length, getD, take, set, length-append}
 use lib.Seq.{length-take-le, take-all, take-suc}
 use Rattle.layout.specs.Placed.{placed}
-use Rattle.layout.proofs.Placed.{placed-none, placed-byte, placed-length, placed-then}
-use Rattle.listing.specs.Text.{lastDigit, digits, decimal}
+use Rattle.layout.proofs.Placed.{placed-none, placed-byte, placed-length, placed-then, placed-ahead}
+use Rattle.listing.specs.Text.{lastDigit, decimal}
+use Rattle.listing.specs.Width.{widthOf, numberIn}
 use Rattle.listing.specs.Put.{Wrote}
+use Rattle.listing.proofs.Decimal.{decimal-one, decimal-more}
+use Rattle.listing.proofs.Widths.{width-digits, decimal-few}
 
 -- nothing, and one byte
 pub wrote-none : (s : List ℕ) (at : ℕ) → at ≤ length s → Wrote s s at at []
@@ -22,7 +25,7 @@ wrote-none s at h = record { room = omega arith; bytes = placed-none s at; behin
 pub wrote-byte : (s : List ℕ) (at b : ℕ) → at < length s → Wrote s (set s at b) at (at + 1) (b ∷ [])
 wrote-byte s at b h = record { room = omega arith; bytes = placed-byte s at b h; behind = refl }
 
--- a text keeps the buffer's length, and one can be written behind another
+-- a text keeps the buffer's length, and one can be written behind another, or before it
 module _ {s s′ : List ℕ} {at next : ℕ} {x : List ℕ} (w : Wrote s s′ at next x) where
   pub wrote-length : length s′ ≡ length s
   wrote-length = ap length (w .bytes) ∙ placed-length s at x (w .room)
@@ -34,42 +37,12 @@ module _ {s s′ : List ℕ} {at next : ℕ} {x : List ℕ} (w : Wrote s s′ at
     behind = rw length-append (omega (arith, v .behind, w .behind));
   }
 
--- Digits: more room for them changes nothing, and so a number's are those of its tenth and its last.
-digits-same : (k l x : ℕ) → x < k → x < l → digits k x ≡ digits l x
-unfolding digits
-digits-same zero l x h g = absurd (omega arith)
-digits-same (suc k) zero x h g = absurd (omega arith)
-digits-same (suc k) (suc l) x h g = go (ltb x 10) refl (digits-same k l (x / 10))
-  where
-    go : (b : Bool) → ltb x 10 ≡ b → (x / 10 < k → x / 10 < l → digits k (x / 10) ≡ digits l (x / 10)) →
-        digits (suc k) x ≡ digits (suc l) x
-    go true e ih = rw e
-    go false e ih = let le : 10 ≤ x = ltb-false _ _ e in rw (e, ih (omega arith) (omega arith))
-
-pub decimal-one : (x : ℕ) → x < 10 → decimal x ≡ lastDigit x ∷ []
-unfolding digits
-decimal-one x h = rw (lt-ltb x 10 h)
-
-pub decimal-more : (x : ℕ) → 10 ≤ x → decimal x ≡ decimal (x / 10) ++ lastDigit x ∷ []
-unfolding digits
-decimal-more x h =
-    let same = digits-same x (suc (x / 10)) (x / 10) (omega arith) (omega arith) in
-    rw (le-ltb x 10 h) (ap (λ (l : List ℕ). l ++ lastDigit x ∷ []) same)
-
--- a number below 10 to the k has at most k digits
-digits-few : (k l x : ℕ) → x < 10 ^ suc k → length (digits l x) ≤ suc k
-unfolding digits
-digits-few k zero x h = omega arith
-digits-few k (suc l) x h = go (ltb x 10) refl k h (λ j. digits-few j l (x / 10))
-  where
-    go : (b : Bool) → ltb x 10 ≡ b → (k : ℕ) → x < 10 ^ suc k →
-        ((j : ℕ) → x / 10 < 10 ^ suc j → length (digits l (x / 10)) ≤ suc j) → length (digits (suc l) x) ≤ suc k
-    go true e k h ih = rw e (omega arith)
-    go false e zero h ih = let le : 10 ≤ x = ltb-false _ _ e in absurd (omega arith)
-    go false e (suc k) h ih = let le : x / 10 < 10 ^ suc k = omega arith in rw (e, length-append) (omega (arith, ih k le))
-
-pub decimal-few : (x : ℕ) → x < 2 ^ 64 → length (decimal x) ≤ 20
-decimal-few x h = digits-few 19 (suc x) x (omega arith)
+  pub wrote-ahead : {s″ : List ℕ} {from : ℕ} {y : List ℕ} → Wrote s′ s″ from at y → Wrote s s″ from next (y ++ x)
+  wrote-ahead {s″} {from} {y} v = record {
+    room = rw length-append (omega (arith, v .behind, w .room));
+    bytes = v .bytes ∙ ap (placed from y) (rw (← v .behind) (w .bytes)) ∙ placed-ahead s y x from (omega (arith, v .behind, w .room));
+    behind = rw length-append (omega (arith, v .behind, w .behind));
+  }
 
 -- A word, byte after byte.
 module _ (s s′ w : List ℕ) (at next i : ℕ) (h : Wrote s s′ at next (take i w)) (lt : i < length w) where
@@ -82,29 +55,58 @@ module _ (s s′ w : List ℕ) (at next i : ℕ) (h : Wrote s s′ at next (take
 pub whole-word : (s s′ w : List ℕ) (at next i : ℕ) → Wrote s s′ at next (take i w) → length w ≤ i → Wrote s s′ at next w
 whole-word s s′ w at next i h le = rw (take-all i w le) at h
 
--- A number, digit after digit.
-more-length : (x : ℕ) → 10 ≤ x → length (decimal x) ≡ length (decimal (x / 10)) + 1
-more-length x h = ap length (decimal-more x h) ∙ length-append (decimal (x / 10)) (lastDigit x ∷ [])
+-- A number, from its last digit to its first: what is left of it has the digits that stand before those that are written.
+pub record Digits (s s′ : List ℕ) (at x end i rest : ℕ) : Type 0 where
+  pub front : List ℕ
+  pub back : List ℕ
+  pub all : decimal x ≡ front ++ back
+  pub left : at < i → front ≡ decimal rest
+  pub place : i ≡ at + length front
+  pub wrote : Wrote s s′ i end back
 
-module _ (n at x : ℕ) (room : at + length (decimal x) ≤ n) where
-  pub one-room : x < 10 → at < n
-  one-room h = omega (arith, ap length (decimal-one x h))
+pub no-digit : (s : List ℕ) (at x end : ℕ) → end ≡ at + length (decimal x) → end ≤ length s → Digits s s at x end end x
+no-digit s at x end e h = record {
+  front = decimal x;
+  back = [];
+  all = sym (append-nil (decimal x));
+  left = λ _. refl;
+  place = e;
+  wrote = wrote-none s end h;
+}
 
-  pub more-room : 10 ≤ x → at + length (decimal (x / 10)) ≤ n
-  more-room h = omega (arith, more-length x h)
+pub next-digit : {s s′ : List ℕ} {at x end i rest : ℕ} (b : ℕ) → Digits s s′ at x end i rest → at < i → b ≡ lastDigit rest →
+    Digits s (set s′ (i - 1) b) at x end (i - 1) (rest / 10)
+next-digit {s} {s′} {at} {x} {end} {i} {rest} b d lt e = go (ltb rest 10) refl
+  where
+    byte : Wrote s′ (set s′ (i - 1) b) (i - 1) i (b ∷ [])
+    byte =
+        let next : i ≡ i - 1 + 1 = omega arith in
+        let room : i - 1 < length s′ = omega (arith, d .wrote .room, wrote-length (d .wrote)) in
+        subst (λ (n : ℕ). Wrote s′ (set s′ (i - 1) b) (i - 1) n (b ∷ [])) (sym next) (wrote-byte s′ (i - 1) b room)
 
-pub last-room : {s s′ : List ℕ} {at next : ℕ} (x : ℕ) → Wrote s s′ at next (decimal (x / 10)) →
-    at + length (decimal x) ≤ length s → 10 ≤ x → next < length s′
-last-room x w room h = omega (arith, more-length x h, w .behind, wrote-length w)
+    made : (front : List ℕ) → decimal rest ≡ front ++ lastDigit rest ∷ [] → (at < i - 1 → front ≡ decimal (rest / 10)) →
+        Digits s (set s′ (i - 1) b) at x end (i - 1) (rest / 10)
+    made front digits left = record {
+      front = front;
+      back = b ∷ d .back;
+      all = rw (d .all, d .left lt, digits, e) (append-assoc front (lastDigit rest ∷ []) (d .back));
+      left = left;
+      place = omega (arith, d .place, ap length (d .left lt ∙ digits), length-append front (lastDigit rest ∷ []));
+      wrote = wrote-ahead (d .wrote) byte;
+    }
 
-module _ (s s′ : List ℕ) (at next x b : ℕ) (digit : b ≡ lastDigit x) where
-  pub one-digit : Wrote s s′ at next (b ∷ []) → x < 10 → Wrote s s′ at next (decimal x)
-  one-digit w h = rw (decimal-one x h, ← digit) w
+    go : (t : Bool) → ltb rest 10 ≡ t → Digits s (set s′ (i - 1) b) at x end (i - 1) (rest / 10)
+    go true t =
+        let one = decimal-one rest (ltb-true _ _ t) in
+        made [] one (λ more. absurd (omega (arith, d .place, ap length (d .left lt ∙ one))))
+    go false t = made (decimal (rest / 10)) (decimal-more rest (ltb-false _ _ t)) (λ _. refl)
 
-  pub more-digits : (s₀ : List ℕ) (at₀ : ℕ) → Wrote s₀ s at₀ at (decimal (x / 10)) → Wrote s s′ at next (b ∷ []) →
-      10 ≤ x →
-      Wrote s₀ s′ at₀ next (decimal x)
-  more-digits s₀ at₀ v w h = rw (decimal-more x h, ← digit) (wrote-behind v w)
+pub all-digits : {s s′ : List ℕ} {at x end i rest : ℕ} → Digits s s′ at x end i rest → i ≤ at → Wrote s s′ at end (decimal x)
+all-digits {s} {s′} {at} {x} {end} {i} {rest} d le = go (d .front) refl
+  where
+    go : (front : List ℕ) → d .front ≡ front → Wrote s s′ at end (decimal x)
+    go [] e = let here : i ≡ at = omega (arith, d .place, ap length e) in rw (d .all, e, ← here) (d .wrote)
+    go (f ∷ more) e = absurd (omega (arith, d .place, ap length e))
 
 -- a number has room behind a word
 pub number-room : {s s′ w : List ℕ} {at next : ℕ} (x : ℕ) → Wrote s s′ at next w → x < 2 ^ 64 →
@@ -115,3 +117,13 @@ number-room x w h room = omega (arith, w .behind, wrote-length w, decimal-few x 
 pub field-end : {s s′ : List ℕ} {at next : ℕ} (w : List ℕ) (x : ℕ) → Wrote s s′ at next (w ++ decimal x) → x < 2 ^ 64 →
     next ≤ at + length w + 20
 field-end w x v h = omega (arith, v .behind, length-append w (decimal x), decimal-few x h)
+
+-- a number of width n at the beginning of a buffer, where that has room for it and where not
+module _ (x n : ℕ) (s : List ℕ) (width : n ≡ widthOf x) where
+  pub number-fits : {s′ : List ℕ} {next : ℕ} → n ≤ length s → x < 2 ^ 64 → Wrote s s′ 0 next (decimal x) → s′ ≡ numberIn x s
+  unfolding numberIn
+  number-fits room h w = rw (← width, le-leb n (length s) room, width, width-digits x h) (rw zero-add at (w .bytes))
+
+  pub number-long : length s < n → s ≡ numberIn x s
+  unfolding numberIn
+  number-long h = rw (← width, lt-leb n (length s) h)

@@ -1,3 +1,4 @@
 pub mod Text
+pub mod Width
 pub mod Listing
 pub mod Put

@@ -6,6 +6,7 @@ ghost use lib.ListN.{length};
 ghost use Rattle.listing.specs.Text.{lastDigit, decimal};
 ghost use Rattle.listing.specs.Listing.{field};
 ghost use Rattle.listing.specs.Put.{Wrote};
+use super::width::width;
 
 // One byte.
 fn put_byte(out: &mut [u8], at: usize, b: u8) -> usize
@@ -37,17 +38,20 @@ fn last_digit(x: u64) -> u8
     (48 + x % 10) as u8
 }
 
-// A number in decimal: the digits before its last one, and that.
-fn put_number(out: &mut [u8], at: usize, x: u64) -> usize
+// A number in decimal: its width is known first, and its digits go into their places from the last to the first.
+pub(crate) fn put_number(out: &mut [u8], at: usize, x: u64) -> usize
     requires { ⌜ at + length (decimal x) ≤ length (now out) ⌝ }
     ensures { λ r. ⌜ Wrote (now (out .entry)) (now (out .exit)) at r (decimal x) ⌝ }
 {
-    if x < 10 {
-        put_byte(out, at, last_digit(x))
-    } else {
-        let next = put_number(out, at, x / 10);
-        put_byte(out, next, last_digit(x))
+    let end = at + width(x);
+    let mut i = end;
+    let mut rest = x;
+    while at < i {
+        i -= 1;
+        out[i] = last_digit(rest);
+        rest /= 10;
     }
+    end
 }
 
 // A word, and a number behind it.

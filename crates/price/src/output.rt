@@ -2,6 +2,7 @@
 use crate::words::words;
 use libc::STDERR_FILENO;
 use libc::STDOUT_FILENO;
+use listing::write_number;
 use model::Outcome;
 
 // Says on standard error what failed and why (S10.6). The reason is errno's, which the write before it leaves alone where it succeeds.
@@ -17,12 +18,19 @@ pub fn write(text: &[u8]) {
     }
 }
 
+// Writes a number in decimal.
+fn write_decimal(fd: i32, x: u64) {
+    let mut text = [0u8; 20];
+    let n = write_number(&mut text, x);
+    io::write_all(fd, &text[..n]);
+}
+
 // Explains a refusal on standard error (S10.5); no other outcome needs it.
 pub fn explain(o: Outcome) {
     match o {
         Outcome::Refused(n) => {
             io::write_all(STDERR_FILENO, b"price: refused ");
-            io::print_decimal(STDERR_FILENO, n as u64);
+            write_decimal(STDERR_FILENO, n as u64);
             words(STDERR_FILENO, n);
         }
         Outcome::Settled => {}
