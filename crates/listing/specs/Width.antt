@@ -8,25 +8,25 @@ use lib.ListN.{length, getD, drop}
 use Rattle.model.specs.Tests.{fork, every}
 use Rattle.listing.specs.Text.{decimal}
 
--- the power rule, asked of all entries of a table together: entry i is 10 to the i
-unfoldable pub powerRule : List ℕ → Bool
-powerRule table = every (length table) (λ i. eqb (getD table i 0) (10 ^ i))
+-- n powers of ten in their order, from 10 to the k on
+unfoldable pub powersFrom : ℕ → ℕ → List ℕ
+powersFrom k zero = []
+powersFrom k (suc n) = 10 ^ k ∷ powersFrom (suc k) n
 
--- a table of the twenty powers of ten that fit 64 bits: each entry is its power and fits, and every power that fits has its entry
+-- the table: the twenty powers of ten that fit 64 bits
+unfoldable pub powers : List ℕ
+powers = powersFrom 0 20
+
+-- what it is to be that table: entry i is 10 to the i and fits, and every power of ten that fits has its entry
 pub record PowersThatFit (table : List ℕ) : Type 0 where
   pub twenty : length table ≡ 20
   pub entry : (i : ℕ) → i < 20 → getD table i 0 ≡ 10 ^ i
   pub fits : (i : ℕ) → i < 20 → 10 ^ i < 2 ^ 64
   pub all : (i : ℕ) → 10 ^ i < 2 ^ 64 → i < 20
 
--- n powers of ten in their order, from 10 to the k on
-unfoldable pub powersFrom : ℕ → ℕ → List ℕ
-powersFrom k zero = []
-powersFrom k (suc n) = 10 ^ k ∷ powersFrom (suc k) n
-
--- that table
-unfoldable pub powers : List ℕ
-powers = powersFrom 0 20
+-- the power rule as one test of all entries together, by which the code's table is tied to it
+unfoldable pub powerRule : List ℕ → Bool
+powerRule table = every (length table) (λ i. eqb (getD table i 0) (10 ^ i))
 
 -- how many entries of a table are at most x
 unfoldable pub atMost : ℕ → List ℕ → ℕ

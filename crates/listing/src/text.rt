@@ -38,7 +38,7 @@ fn last_digit(x: u64) -> u8
     (48 + x % 10) as u8
 }
 
-// A number in decimal: its width is known first, and its digits go into their places from the last to the first.
+// A number in decimal (S10.4): its width is found first, and its digits go into their places from the last to the first.
 pub(crate) fn put_number(out: &mut [u8], at: usize, x: u64) -> usize
     requires { ⌜ at + length (decimal x) ≤ length (now out) ⌝ }
     ensures { λ r. ⌜ Wrote (now (out .entry)) (now (out .exit)) at r (decimal x) ⌝ }

@@ -26,8 +26,8 @@ const POWERS: [u64; 20] = [
     10000000000000000000,
 ];
 
-// A number's width: how many entries are at most the number, and 1 for 0. They ascend, so the first one above it ends the count. It
-// begins at entry 1: entry 0 is at most every number but 0, for which it counts too.
+// A number's width (S10.10): how many entries are at most the number, and 1 for 0. Entries ascend, so the first above the number ends the
+// count. It begins at 1: entry 0 is at most every number but 0, and that has the width 1 too.
 pub(crate) fn width(x: u64) -> usize
     ensures { λ r. ⌜ r ≡ widthOf x ⌝ }
 {

@@ -26,10 +26,11 @@ returns c =
     let put = c .before .before in
     let wide = width-of (put .before) in
     let e = wide .width .ensures in
-    (e, number-fits _ _ _ e (put .before .before .if1 .taken) (wide .before .before .fits .x .fits) (put .put-number .ensures))
+    let fits = wide .before .before .fits .x .fits in
+    (e, number-fits _ _ _ e (omega (arith, put .before .before .if1 .taken)) fits (put .put-number .ensures))
 
 returns-2 : tie.Need-returns-2
-returns-2 c = let e = c .before .width .ensures in (e, number-long _ _ _ e (c .if1 .left))
+returns-2 c = let e = c .before .width .ensures in (e, number-long _ _ _ e (omega (arith, c .if1 .left)))
 
 pub write-number-spec : {M : Type 1} → statement M
 write-number-spec = tie.close (tie.spec width-requires put-number-requires same-length returns returns-2)
