@@ -64,6 +64,7 @@ pub record Digits (s s′ : List ℕ) (at x end i rest : ℕ) : Type 0 where
   pub place : i ≡ at + length front
   pub wrote : Wrote s s′ i end back
 
+-- at first no digit is written, then each turn writes the last one of what is left, and in the end all are
 pub no-digit : (s : List ℕ) (at x end : ℕ) → end ≡ at + length (decimal x) → end ≤ length s → Digits s s at x end end x
 no-digit s at x end e h = record {
   front = decimal x;
@@ -74,7 +75,8 @@ no-digit s at x end e h = record {
   wrote = wrote-none s end h;
 }
 
-pub next-digit : {s s′ : List ℕ} {at x end i rest : ℕ} (b : ℕ) → Digits s s′ at x end i rest → at < i → b ≡ lastDigit rest →
+pub next-digit : {s s′ : List ℕ} {at x end i rest : ℕ} (b : ℕ) → Digits s s′ at x end i rest → at < i →
+    b ≡ lastDigit rest →
     Digits s (set s′ (i - 1) b) at x end (i - 1) (rest / 10)
 next-digit {s} {s′} {at} {x} {end} {i} {rest} b d lt e = go (ltb rest 10) refl
   where
@@ -101,7 +103,8 @@ next-digit {s} {s′} {at} {x} {end} {i} {rest} b d lt e = go (ltb rest 10) refl
         made [] one (λ more. absurd (omega (arith, d .place, ap length (d .left lt ∙ one))))
     go false t = made (decimal (rest / 10)) (decimal-more rest (ltb-false _ _ t)) (λ _. refl)
 
-pub all-digits : {s s′ : List ℕ} {at x end i rest : ℕ} → Digits s s′ at x end i rest → i ≤ at → Wrote s s′ at end (decimal x)
+pub all-digits : {s s′ : List ℕ} {at x end i rest : ℕ} → Digits s s′ at x end i rest → i ≤ at →
+    Wrote s s′ at end (decimal x)
 all-digits {s} {s′} {at} {x} {end} {i} {rest} d le = go (d .front) refl
   where
     go : (front : List ℕ) → d .front ≡ front → Wrote s s′ at end (decimal x)
@@ -120,7 +123,8 @@ field-end w x v h = omega (arith, v .behind, length-append w (decimal x), decima
 
 -- a number of width n at the beginning of a buffer, where that has room for it and where not
 module _ (x n : ℕ) (s : List ℕ) (width : n ≡ widthOf x) where
-  pub number-fits : {s′ : List ℕ} {next : ℕ} → n ≤ length s → x < 2 ^ 64 → Wrote s s′ 0 next (decimal x) → s′ ≡ numberIn x s
+  pub number-fits : {s′ : List ℕ} {next : ℕ} → n ≤ length s → x < 2 ^ 64 → Wrote s s′ 0 next (decimal x) →
+      s′ ≡ numberIn x s
   unfolding numberIn
   number-fits room h w = rw (← width, le-leb n (length s) room, width, width-digits x h) (rw zero-add at (w .bytes))
 
