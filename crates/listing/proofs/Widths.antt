@@ -89,11 +89,15 @@ none-spans zero s = absurd (omega (arith, s .some))
 none-spans (suc zero) s = refl
 none-spans (suc (suc k)) s = absurd (omega (arith, s .low 1 (omega arith) (omega arith)))
 
+-- 0 alone has its width by another rule
+width-some : (x : ℕ) → widthOf (suc x) ≡ atMost (suc x) powers
+unfolding widthOf
+width-some x = rw (ne-eqb (suc x) 0 (λ e. absurd (omega (arith, e))))
+
 pub width-is : (x n : ℕ) → n ≤ 20 → Spans x n → widthOf x ≡ n
 unfolding widthOf
 width-is zero n h s = none-spans n s
-width-is (suc x) n h s =
-    rw (ne-eqb (suc x) 0 (λ e. absurd (omega (arith, e)))) (at-most-is (suc x) n powers (omega (arith, powers-fit .twenty)) low high)
+width-is (suc x) n h s = width-some x ∙ at-most-is (suc x) n powers (omega (arith, powers-fit .twenty)) low high
   where
     low : (i : ℕ) → i < n → getD powers i 0 ≤ suc x
     low zero lt = rw (powers-fit .entry 0 (omega arith)) (omega arith)
@@ -126,8 +130,7 @@ width-digits x h = let (n, few, s) = spanned 19 x (omega arith) in width-is x n 
 pub width-few : (x : ℕ) → widthOf x ≤ 20
 unfolding widthOf
 width-few zero = omega arith
-width-few (suc x) =
-    rw (ne-eqb (suc x) 0 (λ e. absurd (omega (arith, e)))) (omega (arith, at-most-few (suc x) powers, powers-fit .twenty))
+width-few (suc x) = omega (arith, width-some x, at-most-few (suc x) powers, powers-fit .twenty)
 
 pub decimal-few : (x : ℕ) → x < 2 ^ 64 → length (decimal x) ≤ 20
 decimal-few x h = omega (arith, width-digits x h, width-few x)

@@ -1,7 +1,7 @@
 // Prints numbers of every width through the compiled code: each power of ten that fits 64 bits, the numbers beside it, and the largest. A
 // line is a number as the library `io` prints it, its width (S10.10), and a buffer of twenty dots with the number written into it, as a
-// listing has it (S10.4). The last line is of a buffer that is one byte too short. `stdout` holds them to what is expected, which was
-// worked out without a run. The powers are found by multiplying, so nothing here rests on the table of widths.
+// listing has it (S10.4). The last line is of a buffer that is one byte too short. The powers are found by multiplying, so nothing here
+// rests on the table of widths.
 use libc::STDOUT_FILENO;
 use listing::write_number;
 

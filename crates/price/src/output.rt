@@ -18,7 +18,7 @@ pub fn write(text: &[u8]) {
     }
 }
 
-// Writes a number in decimal.
+// Writes a number as a listing has it (S10.4). No number has more digits than the buffer has bytes (S10.10).
 fn write_decimal(fd: i32, x: u64) {
     let mut text = [0u8; 20];
     let n = write_number(&mut text, x);

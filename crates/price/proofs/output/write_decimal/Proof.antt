@@ -1,4 +1,5 @@
--- `price::output::write_decimal` is safe: a number's width is at most the buffer's length.
+-- `price::output::write_decimal` is safe: a number's width is at most the buffer's length. A line of code put before the number is written
+-- lengthens the chain in `within`, and one behind it those that lead to `within`.
 use Prim.Native.Nat.{_≤_}
 use mathlib.Core.Path.{sym}
 use native.Mathlib.Omega.{arith}
