@@ -60,7 +60,7 @@ figures-fit s bytes entries budget =
 module _ (s t : List ℕ) (budget : ℕ) (r : List ℕ) {k : ℕ} {s′ t′ r′ : List ℕ} (m : Hosted s t budget r k s′ t′ r′)
     (bytes : Bytes s) where
   -- as the host sees it, it is what the questions and the procedure give
-  hosted-call : hostCall budget k s′ r′ ≡ callOn s (hostEntries t r) budget
+  pub hosted-call : hostCall budget k s′ r′ ≡ callOn s (hostEntries t r) budget
   unfolding hostNumber hostSheet hostResult
   hosted-call = go (room r) refl
     where

@@ -34,7 +34,7 @@ check-answers s entries e = rw (e, verdict-number) (go (sheetRefusal s entries) 
 -- One call, on the bytes s with the table t and a budget, that returned r and left the bytes s′ and the table t′.
 module _ (s t : List ℕ) (budget : ℕ) {s′ t′ : List ℕ} {r : Answer} (m : Solved s t budget r s′ t′) where
   -- as its caller sees it, it is what the questions and the procedure give
-  solved-call : callOf r s′ ≡ callOn s (length t) budget
+  pub solved-call : callOf r s′ ≡ callOn s (length t) budget
   solved-call = rw (m .0, m .1 .0)
 
   -- Demand 1

@@ -14,10 +14,12 @@ use Rattle.model.specs.Limits.{maxStates, ceiling, noPlan}
 use Rattle.model.specs.Cost.{Cost, amount, _⊑_}
 use Rattle.model.specs.Questions.{questions, answerAt, First, accepted, acceptedUnder, refusal}
 use Rattle.model.specs.Optimal.{optimal, gaps}
-use Rattle.model.specs.Policy.{Policy, Closed, policyCost, written}
+use Rattle.model.specs.Ldfs.{work}
+use Rattle.model.specs.History.{Change, History}
+use Rattle.model.specs.Policy.{Policy, Reach, Closed, policyCost, written}
 use Rattle.model.specs.Earlier.{strictRefusal, checkedRefusal, checkedAccepted, answerThen, bytesThen, plainRefusal, Uncounted}
-use Rattle.model.specs.Report.{answerGiven, bytesGiven, answerUnder, bytesUnder, tableGiven, tableUnder}
-use Rattle.model.specs.Calls.{Call, left, raisesIn}
+use Rattle.model.specs.Report.{cellsAfter, raisesOf, answerGiven, bytesGiven, answerUnder, bytesUnder, tableGiven, tableUnder}
+use Rattle.model.specs.Calls.{Call, callOn, left, raisesIn}
 
 -- an accepted sheet, however far it has been worked: bytes that get a yes to every question but those on the table and the budget
 pub record Accepted (s : List ℕ) : Type 0 where
@@ -32,12 +34,13 @@ startCell s s′ = cellOf (cellsOf s′) (problemOf s .start)
 abbrev pub startCost : List ℕ → Cost
 startCost s = optimal (problemOf s) (problemOf s .start)
 
--- the start's plan, which takes the chosen check written at each junction it reaches: it is complete, costs the start's value, and every
--- complete plan from the start costs at least as much
+-- the start's plan, which takes the chosen check written at each junction it reaches: it is complete, costs the start's value, every
+-- complete plan from the start costs at least as much, and every stage that it reaches is settled
 pub record Best (p : Problem) (cells : List Cell) : Type 0 where
   pub complete : Closed p (written cells) (p .start)
   pub costs : policyCost p (written cells) (p .start) ≡ some (valueOf cells (p .start))
   pub least : (π : Policy) → Closed p π (p .start) → policyCost p (written cells) (p .start) ⊑ policyCost p π (p .start)
+  pub settled : (t : ℕ) → Reach p (written cells) (p .start) t → solved (cellOf cells t) ≡ true
 
 -- S8.14: what there may be of complete plans from the start: none at all; some, and all cost the ceiling or more; one that costs less
 abbrev pub NoPlan : Problem → Type 0
@@ -72,7 +75,7 @@ pub record SettledAt (s : List ℕ) (c : Call) : Type 0 where
   pub best : Best (problemOf s) (cellsOf (c .bytes))
 
 -- S8.3, a call that is over: the price is the ceiling, there is a complete plan and every one costs that or more, so does the least cost,
--- and the start is marked
+-- the start is marked, and the plan written in the sheet is complete
 pub record OverAt (s : List ℕ) (c : Call) : Type 0 where
   pub price : c .price ≡ ceiling
   pub plans : PlansAbove (problemOf s)
@@ -80,6 +83,7 @@ pub record OverAt (s : List ℕ) (c : Call) : Type 0 where
   pub least : startCost s ≡ some cost
   pub above : ceiling ≤ cost
   pub marked : solved (startCell s (c .bytes)) ≡ true
+  pub complete : Closed (problemOf s) (written (cellsOf (c .bytes))) (problemOf s .start)
 
 -- S8.14, a call that ends none: the price is 1,000,000,001, there is no complete plan, the least cost is none, and the start is marked
 pub record NoneAt (s : List ℕ) (c : Call) : Type 0 where
@@ -95,8 +99,22 @@ pub record StoppedAt (s : List ℕ) (c : Call) : Type 0 where
   pub still-open : solved (startCell s (c .bytes)) ≡ false
   pub bound : c .price ≤ amount (startCost s)
 
--- Demand 2 (S7, S8.2 to S8.4), of a call c on the bytes s with a table of so many entries and a budget
+-- S8.19, a call with a budget that was not refused: values, marks and chosen checks as it left them, its passes and its raises are those of
+-- learning depth-first search, taken in sheet order; and each raise is a change of a value in the history of that work (S6.12)
+pub record ByLdfs (s : List ℕ) (budget : ℕ) (c : Call) : Type 0 where
+  pub cells : cellsOf (c .bytes) ≡ cellsAfter (work (problemOf s) (cellsOf s) budget)
+  pub passes : c .passes ≡ work (problemOf s) (cellsOf s) budget .begun
+  pub raises : c .raises ≡ raisesOf (work (problemOf s) (cellsOf s) budget)
+  pub changes : List Change
+  pub history : History (problemOf s) (record { cells = cellsOf s; raises = 0 }) changes
+      (record { cells = cellsOf (c .bytes); raises = c .raises })
+  pub counted : c .raises ≡ length changes
+
+-- Demand 2 (S7, S8.2 to S8.4, S8.14, S8.19), of a call c on the bytes s with a table of so many entries and a budget
 pub record Demand2 (s : List ℕ) (entries budget : ℕ) (c : Call) : Type 0 where
+  -- S8.19: it is the call that the questions and the procedure give: its number, price, passes and raises, and the bytes that it left
+  pub as-defined : c ≡ callOn s entries budget
+  pub by-ldfs : 100 ≤ c .number → ByLdfs s budget c
   -- it was refused, with a number below those of the outcomes, exactly where some question is answered no
   pub refused-for : c .number < 100 → (i : ℕ) × (answerAt (questions s entries budget) i ≡ false)
   pub refused-where : (i : ℕ) → answerAt (questions s entries budget) i ≡ false → c .number < 100

@@ -8,6 +8,7 @@ pub mod QValue
 pub mod Questions
 pub mod Ldfs
 pub mod Optimal
+pub mod History
 pub mod Policy
 pub mod Report
 pub mod Earlier

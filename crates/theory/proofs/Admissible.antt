@@ -7,12 +7,12 @@ use mathlib.Core.Option.{some}
 use mathlib.Core.List.{List, [], _∷_}
 use native.Mathlib.Omega.{arith}
 use borrow.Author.Tests.{le-ltb}
-use Rattle.model.specs.Problem.{Action, Node, terminal, decision, Problem, Cell, states, nodeAt, actionAt, cellOf, valueOf, solved}
+use Rattle.model.specs.Problem.{Action, Node, terminal, decision, Problem, Cell, states, nodeAt, actionAt, cellOf, valueOf, solved, _∈_}
 use Rattle.model.specs.Limits.{ceiling, noPlan}
 use Rattle.model.specs.Cost.{amount}
 use Rattle.model.specs.QValue.{q, least}
 use Rattle.model.specs.Optimal.{bellmanCutAt, bellmanCut, optimal}
-use Rattle.model.specs.Policy.{Closed, costAt, policyCost, written}
+use Rattle.model.specs.Policy.{Reach, arrived, onward, Closed, costAt, policyCost, written}
 use Rattle.theory.specs.Consistent.{WellFormed, Consistent}
 use Rattle.theory.proofs.Basics.{downward}
 use Rattle.theory.proofs.CostLaws.{amount-mono, amount-below, amount-within}
@@ -96,3 +96,15 @@ module _ (p : Problem) (wf : WellFormed p) (cells : List Cell) (h : Consistent p
   pub written-optimal : (s : ℕ) → solved (cellOf cells s) ≡ true → valueOf cells s < ceiling →
       policyCost p (written cells) s ≡ optimal p s
   written-optimal s e l = let v = solved-optimal s e in written-costs s e l ∙ rw v (sym (amount-below (optimal p s) (omega arith)))
+
+  -- what the written policy reaches from a solved state is solved
+  pub reached-solved : {s t : ℕ} → Reach p (written cells) s t → solved (cellOf cells s) ≡ true → solved (cellOf cells t) ≡ true
+  reached-solved arrived e = e
+  reached-solved (onward {s} {u} {t} {i} {form} {acts} node takes m rest) e = reached-solved rest (go acts node m)
+    where
+      same : i ≡ cellOf cells s .chosen
+      same = cc
+
+      go : (acts : List Action) → nodeAt p s ≡ decision form acts → u ∈ actionAt acts i .successors → solved (cellOf cells u) ≡ true
+      go [] node m = absurd (elim m [ ])
+      go (a ∷ more) node m = h .sound s .settles (a ∷ more) node (omega arith) e .below u (rw (← same) m)

@@ -22,12 +22,13 @@ use Rattle.model.specs.Calls.{Call, callOf, callOn, Calls, none, one, left, rai
 use Rattle.model.specs.Demands.{Accepted, startCell, startCost, Best, PlansAbove, PlanBelow, Demand1, refused, worked, Demand2}
 use Rattle.model.specs.Demands.{Demand3}
 use Rattle.theory.proofs.Basics.{clash}
+use Rattle.theory.proofs.Histories.{history-counts}
 use Rattle.theory.proofs.Leads.{solved-of}
 use Rattle.theory.specs.Consistent.{WellFormed}
 use Rattle.theory.proofs.CostLaws.{at-most-then, not-some, amount-below, amount-within, amount-above, amount-some, amount-over}
 use Rattle.theory.proofs.CostLaws.{amount-none}
 use Rattle.theory.proofs.PolicyLaws.{optimal-least, greedy, greedy-closed, none-closed, closed-none, closed-least, never-none}
-use Rattle.theory.proofs.Admissible.{below-optimal, solved-optimal, written-closed, written-costs, written-optimal}
+use Rattle.theory.proofs.Admissible.{below-optimal, solved-optimal, written-closed, written-costs, written-optimal, reached-solved}
 use Rattle.theory.proofs.Work.{Worked}
 use Rattle.theory.proofs.Refusals.{refused-first, refused-below, unrefused-yes}
 use Rattle.theory.proofs.Sheets.{Stands, accepted-stands, stands-problem, stands-cells, stands-accepted, stands-left, unrefused}
@@ -53,6 +54,7 @@ best-plan s p cells h e l =
       complete = written-closed p wf cells c (p .start) e (omega arith);
       costs = written-costs p wf cells c (p .start) e l;
       least = λ π closed. rw (written-optimal p wf cells c (p .start) e l) (optimal-least p wf π (p .start));
+      settled = λ t reach. reached-solved p wf cells c reach e;
     }
 
 -- What there is of closed policies from the start, by V* as written (S8.14): none at all, some that all cost the ceiling or more, one
@@ -97,6 +99,8 @@ refused-right : (s : List ℕ) (entries budget k : ℕ) → refusal s entries bu
 refused-right s entries budget k e =
     let few = refused-below s entries budget k e in
     record {
+      as-defined = sym (call-refused s entries budget k e);
+      by-ldfs = λ z. absurd (omega arith);
       refused-for = λ _. let f = refused-first s entries budget k e in (f .behind, f .no);
       refused-where = λ i no. omega arith;
       settled = λ z. absurd (omega arith);
@@ -138,6 +142,15 @@ module _ (s : List ℕ) (entries budget : ℕ) (e : refusal s entries budget ≡
 
   worked-right : Demand2 s entries budget (callOf (finished (problemOf s) budget (workOn s budget)) (bytesAfter s entries budget))
   worked-right = record {
+    as-defined = sym (call-worked s entries budget e);
+    by-ldfs = λ _. record {
+      cells = end;
+      passes = refl;
+      raises = refl;
+      changes = done .changes;
+      history = rw end (done .history);
+      counted = omega (arith, history-counts (done .history));
+    };
     refused-for = λ few. absurd (above few (says .some));
     refused-where = λ i no. clash (unrefused-yes s entries budget e i) no;
     settled = λ n. let o = says .settled n in record {
@@ -158,6 +171,8 @@ module _ (s : List ℕ) (entries budget : ℕ) (e : refusal s entries budget ≡
           least = is;
           above = omega arith;
           marked = rw end marked;
+          complete = rw end (written-closed (problemOf s) (problem-of h) (cellsLeft s budget) (cells-of after) (problemOf s .start) marked
+              (omega arith));
         };
     stopped = λ n. let o = says .stopped n in record { spent = done .spent o; still-open = rw end o; bound = start-below };
     none = λ n.

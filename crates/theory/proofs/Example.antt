@@ -2,7 +2,7 @@
 -- and D show what a looser order of findings keeps and what a repeat costs; on sheet H, where no check leads to an ending, calls end none,
 -- and on sheet G, where one does, settled; sheet J, with a counted junction, is accepted, and refused once that has lost a check.
 use Prim.Native.Nat.{ℕ, _+_, _<_, _≤_}
-use mathlib.Core.Path.{_≡_, refl}
+use mathlib.Core.Path.{_≡_, refl, ap}
 use mathlib.Core.Bool.{true}
 use mathlib.Core.Option.{none as noCost, some}
 use mathlib.Core.Logic.{_⊎_, inl, inr}
@@ -20,10 +20,12 @@ use Rattle.model.specs.Read.{problemOf, cellsOf}
 use Rattle.model.specs.Cost.{amount, both, times}
 use Rattle.model.specs.Questions.{refusal, refusalUnder}
 use Rattle.model.specs.Earlier.{strictRefusal, checkedRefusal, plainRefusal}
-use Rattle.model.specs.Optimal.{optimal}
+use Rattle.model.specs.Optimal.{bellmanCutAt, optimal}
+use Rattle.model.specs.History.{change, History, nothing, raise, mark}
 use Rattle.model.proofs.Computing.{computing}
 use Rattle.model.specs.Report.{bytesAfter, largest}
 use Rattle.model.specs.Calls.{Call, callOn, Calls, none, one, left}
+use Rattle.model.specs.Demands.{Demand2}
 use Rattle.model.specs.Demands.{Accepted, startCost, Best, NoPlan, NoneAt, Demand3, Raised, Loosened, Withdrawn}
 use Rattle.model.specs.Demands.{FormAdded, withoutCheck}
 use Rattle.model.specs.Rows.{sheetA, sheetC, sheetD, sheetG, sheetH, sheetJ}
@@ -79,6 +81,33 @@ price-A = refl
 pub best-A : Best (problemOf sheetA) (cellsOf (left sheetA callsA))
 unfolding computing left
 best-A = demand-A .best refl (lit< tt)
+
+-- Demand 2 rules out an invented count: a settled call on A that reports no pass and no raise, and is right in all else, does not meet it
+abbrev settledA : Call
+settledA = callOn sheetA maxStates largest
+
+abbrev inventedA : Call
+inventedA = record {
+  budget = settledA .budget;
+  number = settledA .number;
+  price = settledA .price;
+  passes = 0;
+  raises = 0;
+  bytes = settledA .bytes;
+}
+
+pub invented-A : Demand2 sheetA maxStates largest inventedA → ⊥
+unfolding computing
+invented-A d = let three : _≡_ {A = ℕ} 0 3 = ap (λ (c : Call). c .raises) (d .as-defined) in absurd (omega arith)
+
+-- A's three raises, in the order in which work makes them: stage 0 from 0 to 200, stage 1 from 0 to 400, stage 0 from 200 to 500
+pub history-A : History (problemOf sheetA) (record { cells = cellsOf sheetA; raises = 0 })
+    (change 0 0 200 ∷ change 1 0 400 ∷ change 0 200 500 ∷ [])
+    (record { cells = cellsOf (settledA .bytes); raises = settledA .raises })
+unfolding computing bellmanCutAt
+history-A =
+    raise 0 200 (lit< tt) refl refl (lit< tt) (raise 1 400 (lit< tt) refl refl (lit< tt) (raise 0 500 (lit< tt) refl refl (lit< tt)
+    (mark 3 0 (lit< tt) refl (mark 0 1 (lit< tt) refl nothing))))
 
 -- Sheet D lists one stage twice. The order that question 6 once asked for refused it, and it is accepted; sheet C, which is whole too and
 -- lists none twice, was accepted then, and keeps what it had.

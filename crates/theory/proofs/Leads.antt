@@ -4,7 +4,7 @@ use mathlib.Core.Path.{_≡_, refl, sym, ap, _∙_}
 use mathlib.Core.Bool.{true, false}
 use mathlib.Core.Logic.{_⊎_, inl, inr, _≢_}
 use mathlib.Core.Option.{some}
-use mathlib.Core.List.{List}
+use mathlib.Core.List.{List, [], _++_}
 use native.Mathlib.Omega.{arith}
 use lib.ListN.{length, set, length-set}
 use lib.Seq.{getD-set-same, getD-set-other}
@@ -12,10 +12,12 @@ use Rattle.model.specs.Problem.{Action, Form, decision, Problem, Cell, cell, st
 use Rattle.model.specs.Limits.{noPlan}
 use Rattle.model.specs.QValue.{q}
 use Rattle.model.specs.Ldfs.{Search, cellAt, valueAt, solvedAt, raised, marked}
-use Rattle.model.specs.Optimal.{sumBelow}
+use Rattle.model.specs.Optimal.{bellmanCut, sumBelow}
+use Rattle.model.specs.History.{Change, History, nothing, raise, mark}
 use Rattle.theory.specs.Consistent.{endOf, Settles, Sound, Consistent}
 use Rattle.theory.proofs.Basics.{clash, same-or-not, sum-mono, sum-strict}
 use Rattle.theory.proofs.QValueLaws.{q-mono, q-same}
+use Rattle.theory.proofs.Histories.{history-then}
 
 -- consistent cells, and no more raises than the budget
 pub record Ready (p : Problem) (budget : ℕ) (w : Search) : Type 0 where
@@ -36,6 +38,9 @@ pub record Leads (p : Problem) (budget s : ℕ) (w w′ : Search) : Type 0 where
   pub paid : w′ .raises + sumBelow (states p) (valueAt w) ≤ w .raises + sumBelow (states p) (valueAt w′)
   -- no raise, no value changed
   pub quiet : w′ .raises ≡ w .raises → (u : ℕ) → valueAt w′ u ≡ valueAt w u
+  -- the changes of values on the way
+  pub changes : List Change
+  pub history : History p w changes w′
 
 pub value-of : {c c′ : Cell} → c ≡ c′ → c .value ≡ c′ .value
 value-of e = ap (λ (c : Cell). c .value) e
@@ -53,6 +58,8 @@ module _ {p : Problem} {budget : ℕ} where
     counts = omega arith;
     paid = omega arith;
     quiet = λ h u. refl;
+    changes = [];
+    history = nothing;
   }
 
   pub then : {s : ℕ} {w w′ w″ : Search} → Leads p budget s w w′ → Leads p budget s w′ w″ → Leads p budget s w w″
@@ -64,6 +71,8 @@ module _ {p : Problem} {budget : ℕ} where
     counts = omega (arith, a .counts, b .counts);
     paid = omega (arith, a .paid, b .paid);
     quiet = λ h u. b .quiet (omega (arith, h, a .counts, b .counts)) u ∙ a .quiet (omega (arith, h, a .counts, b .counts)) u;
+    changes = a .changes ++ b .changes;
+    history = history-then (a .history) (b .history);
   }
 
   -- who leaves more states alone leaves fewer alone
@@ -76,6 +85,8 @@ module _ {p : Problem} {budget : ℕ} where
     counts = a .counts;
     paid = a .paid;
     quiet = a .quiet;
+    changes = a .changes;
+    history = a .history;
   }
 
 -- an action that settles a state of the same value still does where solved cells stay
@@ -133,8 +144,9 @@ module _ (p : Problem) (budget s r : ℕ) (w : Search) (c : Cell) (ready : Ready
 
   put-leads : Sound p (w′ .cells) s → w .raises ≤ r → r ≤ budget →
       r + sumBelow (states p) (valueAt w) ≤ w .raises + sumBelow (states p) (valueAt w′) →
-      (r ≡ w .raises → (u : ℕ) → valueAt w′ u ≡ valueAt w u) → Leads p budget s w w′
-  put-leads sound counts within paid quiet = record {
+      (r ≡ w .raises → (u : ℕ) → valueAt w′ u ≡ valueAt w u) → {changes : List Change} → History p w changes w′ →
+      Leads p budget s w w′
+  put-leads sound counts within paid quiet {changes} history = record {
     ready = record {
       consistent = record { size = simp length-set (ready .consistent .size); sound = λ u. go u (same-or-not u s) };
       within = within;
@@ -145,6 +157,8 @@ module _ (p : Problem) (budget s r : ℕ) (w : Search) (c : Cell) (ready : Ready
     counts = counts;
     paid = paid;
     quiet = quiet;
+    changes = changes;
+    history = history;
   }
     where
       go : (u : ℕ) → (u ≡ s) ⊎ (u ≢ s) → Sound p (w′ .cells) u
@@ -183,11 +197,11 @@ module _ (p : Problem) (budget s x : ℕ) (w : Search) (ready : Ready p budget w
       settles = λ acts n has sol. clash sol (solved-of raised-cell ∙ isOpen);
     }
 
-    pub raise-leads : w .raises < budget → Leads p budget s w (raised s x w)
-    raise-leads room =
+    pub raise-leads : x ≡ bellmanCut p s (valueAt w) → w .raises < budget → Leads p budget s w (raised s x w)
+    raise-leads is room =
         put-leads p budget s (suc (w .raises)) w c ready state isOpen (omega arith) raise-sound (omega arith) (omega arith)
         (omega (arith, sum-strict (valueAt w) (valueAt (raised s x w)) rises (states p) s state (omega (arith, value-of raised-cell, up))))
-        (λ e. absurd (omega arith))
+        (λ e. absurd (omega arith)) (raise s x state isOpen is up nothing)
 
 -- a state that may be marked, with action i chosen
 pub record Done (p : Problem) (w : Search) (s i : ℕ) : Type 0 where
@@ -230,6 +244,6 @@ module _ (p : Problem) (budget s i : ℕ) (w : Search) (ready : Ready p budget w
   mark-leads = (
     put-leads p budget s (w .raises) w d ready state isOpen (omega arith) mark-sound (omega arith) (ready .within)
         (omega (arith, sum-mono (valueAt w) (valueAt (marked s i w)) (λ t. omega (arith, marked-values t)) (states p)))
-        (λ _. marked-values),
+        (λ _. marked-values) (mark s i state isOpen nothing),
     solved-of marked-cell,
   )

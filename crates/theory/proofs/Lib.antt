@@ -7,6 +7,7 @@ pub mod PolicyLaws
 pub mod Admissible
 pub mod Repeats
 pub mod Facts
+pub mod Histories
 pub mod Leads
 pub mod Visits
 pub mod Work

@@ -11,7 +11,8 @@ use lib.Dec.{ltb}
 use lib.ListN.{length}
 use Rattle.model.specs.Problem.{Action, Form, Node, terminal, decision, Problem, states, nodeAt, actionAt, _∈_, here, there}
 use Rattle.model.specs.Limits.{noPlan}
-use Rattle.model.specs.QValue.{least}
+use Rattle.model.specs.QValue.{leastFrom, least}
+use Rattle.model.specs.Optimal.{bellmanCutAt, bellmanCut}
 use Rattle.model.specs.Ldfs.{Search, Visit, success, failure, halt, valueAt, solvedAt, priceAt, onTest, onVisit, raised}
 use Rattle.model.specs.Ldfs.{marked, update, ifDear, visitAll, tryOne, tryAll, finish, visitOpen, visit}
 use Rattle.model.specs.Ldfs.{ifDearBy, visitAllBy, tryOneBy, tryAllBy, visitOpenBy, visitBy}
@@ -106,16 +107,16 @@ module _ (p : Problem) (wf : WellFormed p) (budget : ℕ) where
 
   -- the value of s becomes x, which is not below it: a raise, a halt, or nothing to do
   update-does : (s x r : ℕ) (next : Search → Visit) (w : Search) → Ready p budget w → s < states p → solvedAt w s ≡ false →
-      Fits p (w .cells) s x → valueAt w s ≤ x →
+      Fits p (w .cells) s x → x ≡ bellmanCut p s (valueAt w) → valueAt w s ≤ x →
       (valueAt w s < x → Leads p budget s w (raised s x w) → Visited p budget s r w (next (raised s x w))) →
       (x ≡ valueAt w s → Visited p budget s r w (next w)) → Visited p budget s r w (update budget s x next w)
   unfolding update
-  update-does s x r next w ready state isOpen fits up onRaise onSame =
+  update-does s x r next w ready state isOpen fits is up onRaise onSame =
       on-test (Visited p budget s r w) (ltb (valueAt w s) x) _ _ w
       (λ e. on-test (Visited p budget s r w) (ltb (w .raises) budget) _ _ w
       (λ room.
       let lt : valueAt w s < x = ltb-true _ _ e in
-      onRaise lt (raise-leads p budget s x w ready state isOpen lt fits (ltb-true _ _ room)))
+      onRaise lt (raise-leads p budget s x w ready state isOpen lt fits is (ltb-true _ _ room)))
       (λ full. (stay ready, omega (arith, ltb-false (w .raises) budget full, ready .within), isOpen)))
       (λ e.
       let same : x ≡ valueAt w s = omega (arith, ltb-false (valueAt w s) x e) in
@@ -170,6 +171,11 @@ module _ (p : Problem) (wf : WellFormed p) (budget : ℕ) where
           its-acts (λ xs. i < length xs → least (priceAt p w) acts ≤ priceAt p w (actionAt xs i))
           (least-below (priceAt p w) acts i) acts′ e;
     }
+
+    -- the least price is what the Bellman equation has at s, as it is written
+    least-is : (w : Search) → least (priceAt p w) acts ≡ bellmanCut p s (valueAt w)
+    unfolding bellmanCutAt
+    least-is w = rw node
 
     done : (w : Search) (i : ℕ) → Ready p budget w → i < length acts →
         ((t : ℕ) → t ∈ actionAt acts i .successors → solvedAt w t ≡ true) →
@@ -236,7 +242,7 @@ module _ (p : Problem) (wf : WellFormed p) (budget : ℕ) where
         Visited p budget s r w (tryAll p budget v s acts n i w)
     unfolding tryAllBy
     tryAll-does zero i count r w h =
-        update-does s (least (priceAt p w) acts) r failure w (h .ready) state (h .isOpen) (fits-least w)
+        update-does s (least (priceAt p w) acts) r failure w (h .ready) state (h .isOpen) (fits-least w) (least-is w)
         (least-above (priceAt p w) acts (valueAt w s) (h .ready .consistent .sound s .small)
         (λ j l. h .ready .consistent .sound s .under-q acts j node l))
         (λ up lead. (lead, omega (arith, h .begun)))
@@ -246,6 +252,16 @@ module _ (p : Problem) (wf : WellFormed p) (budget : ℕ) where
         (λ dear. tryAll-does n (suc i) (omega arith) r w (next-action i r w h (λ _. dear)))
         (λ le. tryOne-does i r (omega arith) (tryAll p budget v s acts n (suc i)) w h le (tryAll-does n (suc i) (omega arith) r))
 
+  -- and so is the value that a state ends at by itself
+  end-is : (s x : ℕ) → endOf (nodeAt p s) ≡ some x → (v : ℕ → ℕ) → x ≡ bellmanCut p s v
+  unfolding bellmanCutAt leastFrom
+  end-is s x ends v = go (nodeAt p s) refl ends
+    where
+      go : (n : Node) → nodeAt p s ≡ n → endOf n ≡ some x → x ≡ bellmanCutAt (p .kind) v n
+      go (terminal cost) e z = let same : cost ≡ x = cc in omega (arith, wf .capped s cost e)
+      go (decision form []) e z = cc
+      go (decision form (a ∷ more)) e z = not-some refl z
+
   -- a state that ends by itself, at x: its value becomes x, and it is marked
   finish-does : (s x : ℕ) (w : Search) → endOf (nodeAt p s) ≡ some x → x ≤ noPlan → s < states p → Ready p budget w →
       solvedAt w s ≡ false → Visited p budget s (w .raises) w (finish budget s x w)
@@ -253,7 +269,7 @@ module _ (p : Problem) (wf : WellFormed p) (budget : ℕ) where
   finish-does s x w ends small state ready isOpen =
       let raise = raised-cell p budget s x w ready state in
       let under = ready .consistent .sound s .under-end x ends in
-      update-does s x (w .raises) (λ w′. success (marked s 0 w′)) w ready state isOpen fits under
+      update-does s x (w .raises) (λ w′. success (marked s 0 w′)) w ready state isOpen fits (end-is s x ends (valueAt w)) under
       (λ up lead. done (raised s x w) lead (solved-of raise ∙ isOpen) (value-of raise))
       (λ same. done w (stay ready) isOpen (sym same))
     where

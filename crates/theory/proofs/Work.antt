@@ -9,6 +9,7 @@ use Rattle.model.specs.Limits.{noPlan}
 use Rattle.model.specs.Ldfs.{Search, Visit, success, failure, halt, solvedAt, visit, Passes, onPass, passes, searchOf, work}
 use Rattle.model.specs.Ldfs.{passesBy, workBy}
 use Rattle.model.specs.Optimal.{sumBelow}
+use Rattle.model.specs.History.{Change, History}
 use Rattle.model.specs.Report.{cellsAfter, raisesOf}
 use Rattle.theory.specs.Consistent.{WellFormed, Consistent}
 use Rattle.theory.proofs.Basics.{clash, sum-bounded}
@@ -51,6 +52,9 @@ pub record Worked (p : Problem) (cells : List Cell) (budget : ℕ) (r : Passes) 
   pub spent : solved (cellOf (cellsAfter r) (p .start)) ≡ false → raisesOf r ≡ budget
   -- passes are at most raises plus 1
   pub few : r .begun ≤ suc (raisesOf r)
+  -- the changes of values that it made
+  pub changes : List Change
+  pub history : History p (record { cells = cells; raises = 0 }) changes (searchOf (r .ended))
 
 module _ (p : Problem) (wf : WellFormed p) where
   passes-does : (budget f n : ℕ) (w : Search) → budget < w .raises + f → Ready p budget w →
@@ -85,6 +89,8 @@ module _ (p : Problem) (wf : WellFormed p) where
         within = lead .ready .within;
         spent = spent;
         few = omega arith;
+        changes = lead .changes;
+        history = lead .history;
       }
 
       go : (n : ℕ) (v : Visit) → Ended p budget w v → n + 0 ≤ 1 + searchOf v .raises →

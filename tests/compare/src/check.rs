@@ -154,13 +154,13 @@ fn worked(first: &Sheet, last: &Sheet, raises: u64) -> Result<(), String> {
     }
 }
 
-/// A settled start has the least cost, and below the ceiling its plan is complete and costs that.
+/// A settled start has the least cost, and up to the ceiling its plan is complete, costs that, cut, and reaches settled states only (S8.2, S8.3).
 fn plan_is_best(sheet: &Sheet, least: &[Cost]) -> Result<(), String> {
     let (price, due) = (sheet.cells[sheet.start].value, written(least[sheet.start]));
     if price != due {
         return Err(format!("settled at {price}, but the least cost is {due}"));
     }
-    if price >= CEILING {
+    if price > CEILING {
         return Ok(());
     }
     let cost = sheet.plan_costs()[sheet.start];
