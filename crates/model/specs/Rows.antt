@@ -1,5 +1,6 @@
 -- The worked examples (S11), in one table. `proofs/RowsHold.antt` has one proof across it that the definitions give what is expected.
 use Prim.Native.Nat.{ℕ, zero, suc, _+_, _*_, _^_, min}
+use Prim.Native.String.{String}
 use mathlib.Core.Path.{_≡_}
 use mathlib.Core.List.{List, [], _∷_, _++_}
 use lib.ListN.{length, getD, set, take, drop, replicate}
@@ -14,8 +15,9 @@ pub data Expected : Type 0 where
   answers : List ℕ → Expected
   accepts : Expected
 
--- a sheet, the number of table entries, the budget, and what is expected
+-- a row's name, which is what a failing check says of it; a sheet, the number of table entries, the budget, and what is expected
 pub record Row : Type 0 where
+  pub name : String
   pub sheet : List ℕ
   pub entries : ℕ
   pub budget : ℕ
@@ -126,20 +128,18 @@ abandoned =
     ))
     (cell 150 0 0 ∷ cell 0 0 0 ∷ cell 0 0 0 ∷ cell 50 0 0 ∷ cell 0 0 0 ∷ [])
 
--- A sum that does not fit 32 bits: a whole sheet, settled, whose start leads to m stages at the ceiling. Stage s > 0 leads to the sixteen
--- behind it, as far as there are, so that the least cost of stage m + 10 - i is 1,000,000 · 2^i, cut.
-doubling : ℕ → ℕ → List Node
-doubling s zero = terminal 1000000 ∷ []
-doubling s (suc i) = decision plain (action 1000000 (upFrom (suc s) (min 16 (suc i))) ∷ []) ∷ doubling (suc s) i
-
-doubled : ℕ → List Cell
-doubled zero = cell 1000000 1 0 ∷ []
-doubled (suc i) = cell (min (1000000 * 2 ^ suc i) 1000000000) 1 0 ∷ doubled i
-
+-- A sum that does not fit 32 bits: a whole sheet, settled at its least costs, cut, whose start lists stage 1, at the ceiling, m times.
+-- From the ending upwards they are 1,000,000, then 1,000,000 + 16 · 1,000,000, 1,000,000 + 16 · 17,000,000, and
+-- 1,000,000 + 4 · 273,000,000, which is above the ceiling.
 abbrev atCeiling : ℕ → List ℕ
 atCeiling m =
-    write (problem whole 0 (decision plain (action 1 (upFrom 1 m) ∷ []) ∷ doubling 1 (9 + m)))
-    (cell 1000000000 1 0 ∷ doubled (9 + m))
+    write
+    (problem whole 0 (
+    decision plain (action 1 (replicate m 1) ∷ []) ∷ decision plain (action 1000000 (replicate 4 2) ∷ [])
+    ∷ decision plain (action 1000000 (replicate 16 3) ∷ []) ∷ decision plain (action 1000000 (replicate 16 4) ∷ [])
+    ∷ terminal 1000000 ∷ []
+    ))
+    (cell ceiling 1 0 ∷ cell ceiling 1 0 ∷ cell 273000000 1 0 ∷ cell 17000000 1 0 ∷ cell 1000000 1 0 ∷ [])
 
 -- Sheet F with its junction's value, mark and chosen check.
 abbrev pub sheetF : ℕ → ℕ → ℕ → List ℕ
@@ -158,6 +158,16 @@ sheetH =
     write
     (problem worst 0 (decision plain (action 10 (1 ∷ []) ∷ action 100 (1 ∷ []) ∷ []) ∷ decision plain [] ∷ []))
     (cell 0 0 0 ∷ cell 0 0 0 ∷ [])
+
+-- Stages from number s on, i junctions and an ending: each junction's check, of cost 1,000,000, leads to the sixteen stages behind it, as
+-- far as there are. On a whole sheet the i-th from the end then has the least cost 1,000,000 · 2^i, and is settled there, cut.
+doubling : ℕ → ℕ → List Node
+doubling s zero = terminal 1000000 ∷ []
+doubling s (suc i) = decision plain (action 1000000 (upFrom (suc s) (min 16 (suc i))) ∷ []) ∷ doubling (suc s) i
+
+doubled : ℕ → List Cell
+doubled zero = cell 1000000 1 0 ∷ []
+doubled (suc i) = cell (min (1000000 * 2 ^ suc i) 1000000000) 1 0 ∷ doubled i
 
 -- Sheet I with these checks at junction 0.
 abbrev sheetI : List Action → List ℕ
@@ -179,11 +189,11 @@ abbrev endingAt : ℕ → List ℕ
 endingAt value = write (problem worst 0 (terminal 70 ∷ [])) (cell value 0 0 ∷ [])
 
 -- a row with a table of so many entries; with one of as many as are needed
-abbrev rowWith : ℕ → List ℕ → ℕ → Expected → Row
-rowWith entries s budget e = record { sheet = s; entries = entries; budget = budget; expected = e }
+abbrev rowWith : String → ℕ → List ℕ → ℕ → Expected → Row
+rowWith name entries s budget e = record { name = name; sheet = s; entries = entries; budget = budget; expected = e }
 
-abbrev row : List ℕ → ℕ → Expected → Row
-row = rowWith maxStates
+abbrev row : String → List ℕ → ℕ → Expected → Row
+row name = rowWith name maxStates
 
 -- settled, over, stopped, none, refused: price, passes, raises
 abbrev settled : ℕ → ℕ → ℕ → Expected
@@ -205,111 +215,105 @@ refusedBy n = answers (n ∷ 0 ∷ 0 ∷ 0 ∷ [])
 abbrev carriedOn : List ℕ → ℕ → List ℕ
 carriedOn s budget = bytesAfter s maxStates budget
 
--- The rows of S11 in its order, but for the chain of 999 junctions (S11.13) and the 4,096 endings (S11.22), which are too large to compute
--- here; then more rows.
+-- The rows of S11, but for the chain of 999 junctions (S11.13) and the 4,096 endings (S11.22), which are too large to compute here; then
+-- more rows. They stand in the order of S11, but S11.21 stands right behind S11.14: were question 5 put before question 4, S11.14 would
+-- fail, and the rows of S11.21, tested after it, would have 4,096 stages to compute.
 unfoldable pub rows : List Row
 unfolding repeat upFrom doubling doubled
 rows =
-    -- S11.1 to S11.12
-    row (oneEnding 0) largest (settled 0 1 0)
-    ∷ row (oneEnding 70) 1 (settled 70 1 1)
-    ∷ row sheetA largest (settled 500 3 3)
-    ∷ row sheetA 2 (stopped 200 2 2)
-    ∷ row (carriedOn sheetA 2) largest (settled 500 2 1)
-    ∷ row (sheetB 0 0 1 0) largest (settled 150 4 5)
-    ∷ row (sheetB 1 0 1 0) largest (settled 180 4 5)
-    ∷ row (sheetB 0 100 1 0) largest accepts
-    ∷ row (sheetB 0 101 1 0) largest (refusedBy 7)
-    ∷ row (set (sheetB 0 0 1 0) 5 0) largest (refusedBy 3)
-    ∷ row (sheetB 0 0 0 0) largest (refusedBy 6)
-    ∷ row (sheetB 0 0 1 1) largest (refusedBy 8)
-    ∷ row sheetA 0 (refusedBy 9)
-    -- S11.14, S11.15
-    ∷ row (take 80 (set sheetA 23 0)) largest (refusedBy 4)
-    ∷ row (manyChecks plainField 16) largest accepts
-    ∷ row (manyChecks plainField 17) largest (refusedBy 4)
-    ∷ row (manyFindings 16) largest accepts
-    ∷ row (manyFindings 17) largest (refusedBy 4)
-    -- S11.20, S11.21; the number of stages is 16 · 256 + 0 and 16 · 256 + 1
-    ∷ rowWith 4095 sheetA largest (refusedBy 1)
-    ∷ rowWith 4096 sheetA largest (settled 500 3 3)
-    ∷ rowWith 4200 sheetA largest (settled 500 3 3)
-    ∷ row (set (set (oneEnding 0) 4 16) 5 0) largest (refusedBy 4)
-    ∷ row (set (set (oneEnding 0) 4 16) 5 1) largest (refusedBy 3)
-    -- S11.17 to S11.19
-    ∷ row (sheetC 0 10 40 40 20) largest (settled 50 4 7)
-    ∷ row (sheetC 1 10 40 40 20) largest (settled 120 6 9)
-    ∷ row (sheetC 0 0 0 0 0) largest (settled 10 2 1)
-    -- S11.23 to S11.29
-    ∷ row (sheetD 1 0 0) largest (settled 160 3 3)
-    ∷ row (sheetD 0 0 0) largest (refusedBy 6)
-    ∷ row (sheetD 1 0 0) 2 (stopped 100 2 2)
-    ∷ row (carriedOn (sheetD 1 0 0) 2) largest (settled 160 2 1)
-    ∷ row (sheetD 1 160 30) largest accepts
-    ∷ row (sheetD 1 161 30) largest (refusedBy 7)
-    ∷ row (oneCheck 1 2 100 (replicate 16 1) (ending 30)) largest (settled 580 3 3)
-    ∷ row (sheetE (1 ∷ 1 ∷ 2 ∷ 2 ∷ 2 ∷ [])) largest (settled 41 4 5)
-    ∷ row (sheetE (1 ∷ 2 ∷ 1 ∷ [])) largest (refusedBy 6)
-    ∷ row (sheetE (0 ∷ 0 ∷ [])) largest (refusedBy 6)
-    ∷ row (sheetE (3 ∷ 3 ∷ [])) largest (refusedBy 6)
-    -- S11.31 to S11.36
-    ∷ row (sheetF 0 0 0) largest (noneLeft 1 1)
-    ∷ row (sheetF 0 0 0) 1 (noneLeft 1 1)
-    ∷ row (carriedOn (sheetF 0 0 0) 1) largest (noneLeft 1 0)
-    ∷ row (sheetF noPlan 0 0) largest (noneLeft 1 0)
-    ∷ row (sheetF 1000000002 0 0) largest (refusedBy 5)
-    ∷ row (sheetF noPlan 1 0) largest accepts
-    ∷ row (sheetF ceiling 1 0) largest (refusedBy 8)
-    ∷ row (sheetF 0 1 0) largest (refusedBy 8)
-    ∷ row (sheetF 0 0 1) largest (refusedBy 5)
-    ∷ row (sheetF noPlan 1 1) largest (refusedBy 5)
-    ∷ row (endingAt noPlan) largest (refusedBy 7)
-    ∷ row (endingAt 1000000002) largest (refusedBy 5)
-    ∷ row (take 16 (sheetF 0 0 0)) largest (refusedBy 2)
-    ∷ row (take 19 (oneEnding 0)) largest (refusedBy 4)
-    -- S11.37 to S11.40
-    ∷ row (sheetG worst) largest (settled 130 4 5)
-    ∷ row (sheetG whole) largest (settled 130 4 5)
-    ∷ row sheetH largest (noneLeft 3 3)
-    ∷ row sheetH 2 (stopped 10 2 2)
-    ∷ row (carriedOn sheetH 2) largest (noneLeft 2 1)
-    ∷ row (sheetI (action 1 (13 ∷ []) ∷ action 1 (1 ∷ 2 ∷ []) ∷ [])) largest (over 1000000000 1 1)
-    ∷ row (sheetI (action 1 (1 ∷ 2 ∷ 13 ∷ []) ∷ [])) largest (noneLeft 2 2)
-    -- S11.42, S11.43
-    ∷ row (sheetJ 2) largest (settled 500 3 3)
-    ∷ row (take 38 (sheetJ 2) ++ countedField 1 ++ drop 47 (sheetJ 2)) largest (settled 500 3 3)
-    ∷ row (sheetJ 2) 2 (stopped 200 2 2)
-    ∷ row (carriedOn (sheetJ 2) 2) largest (settled 500 2 1)
-    -- S11.44 to S11.47
-    ∷ row (sheetJ 1) largest (refusedBy 10)
-    ∷ row (sheetJ 3) largest (refusedBy 10)
-    ∷ row (sheetJ 0) largest (refusedBy 10)
-    ∷ row (sheetJ 200) largest (refusedBy 10)
-    ∷ row (without 28 9 sheetA) largest (settled 700 4 6)
-    ∷ row (without 29 9 (sheetJ 2)) largest (refusedBy 10)
-    ∷ row (without 18 11 (sheetJ 2)) largest (refusedBy 10)
-    ∷ row ((1 ∷ 0 ∷ 5 ∷ 0 ∷ 0 ∷ 1 ∷ 0 ∷ 0 ∷ []) ++ countedField 0) largest (noneLeft 1 1)
-    ∷ row ((1 ∷ 0 ∷ 5 ∷ 0 ∷ 0 ∷ 1 ∷ 0 ∷ 0 ∷ []) ++ countedField 1) largest (refusedBy 10)
-    ∷ row (manyChecks (countedField 16) 16) largest accepts
-    ∷ row (manyChecks (countedField 17) 16) largest (refusedBy 10)
-    ∷ row (manyChecks (countedField 17) 17) largest (refusedBy 4)
-    -- S11.48 to S11.50; the last field is cut, check 0 costs 0, its first finding is junction 0, the budget is 0
-    ∷ row (take 81 (sheetJ 1)) largest (refusedBy 4)
-    ∷ row (set (sheetJ 1) 24 0) largest (refusedBy 10)
-    ∷ row (set (sheetJ 1) 26 0) largest (refusedBy 10)
-    ∷ row (sheetJ 1) 0 (refusedBy 10)
-    ∷ row (set (sheetJ 2) 8 3) largest (refusedBy 4)
-    ∷ row (set sheetA 8 5) largest (refusedBy 4)
-    ∷ row (take 37 sheetA ++ countedField 2 ++ drop 46 sheetA) largest (refusedBy 10)
+    row "S11.1" (oneEnding 0) largest (settled 0 1 0)
+    ∷ row "S11.2" (oneEnding 70) 1 (settled 70 1 1)
+    ∷ row "S11.3" sheetA largest (settled 500 3 3)
+    ∷ row "S11.4" sheetA 2 (stopped 200 2 2)
+    ∷ row "S11.5" (carriedOn sheetA 2) largest (settled 500 2 1)
+    ∷ row "S11.6" (sheetB 0 0 1 0) largest (settled 150 4 5)
+    ∷ row "S11.7" (sheetB 1 0 1 0) largest (settled 180 4 5)
+    ∷ row "S11.8" (sheetB 0 100 1 0) largest accepts
+    ∷ row "S11.8" (sheetB 0 101 1 0) largest (refusedBy 7)
+    ∷ row "S11.9" (set (sheetB 0 0 1 0) 5 0) largest (refusedBy 3)
+    ∷ row "S11.10" (sheetB 0 0 0 0) largest (refusedBy 6)
+    ∷ row "S11.11" (sheetB 0 0 1 1) largest (refusedBy 8)
+    ∷ row "S11.12" sheetA 0 (refusedBy 9)
+    ∷ row "S11.14" (take 80 (set sheetA 23 0)) largest (refusedBy 4)
+    -- the number of stages is 16 · 256 + 0 and 16 · 256 + 1
+    ∷ row "S11.21" (set (set (oneEnding 0) 4 16) 5 0) largest (refusedBy 4)
+    ∷ row "S11.21" (set (set (oneEnding 0) 4 16) 5 1) largest (refusedBy 3)
+    ∷ row "S11.15" (manyChecks plainField 16) largest accepts
+    ∷ row "S11.15" (manyChecks plainField 17) largest (refusedBy 4)
+    ∷ row "S11.15" (manyFindings 16) largest accepts
+    ∷ row "S11.15" (manyFindings 17) largest (refusedBy 4)
+    ∷ rowWith "S11.20" 4095 sheetA largest (refusedBy 1)
+    ∷ rowWith "S11.20" 4096 sheetA largest (settled 500 3 3)
+    ∷ rowWith "S11.20" 4200 sheetA largest (settled 500 3 3)
+    ∷ row "S11.17" (sheetC 0 10 40 40 20) largest (settled 50 4 7)
+    ∷ row "S11.18" (sheetC 1 10 40 40 20) largest (settled 120 6 9)
+    ∷ row "S11.19" (sheetC 0 0 0 0 0) largest (settled 10 2 1)
+    ∷ row "S11.23" (sheetD 1 0 0) largest (settled 160 3 3)
+    ∷ row "S11.24" (sheetD 0 0 0) largest (refusedBy 6)
+    ∷ row "S11.25" (sheetD 1 0 0) 2 (stopped 100 2 2)
+    ∷ row "S11.25" (carriedOn (sheetD 1 0 0) 2) largest (settled 160 2 1)
+    ∷ row "S11.26" (sheetD 1 160 30) largest accepts
+    ∷ row "S11.26" (sheetD 1 161 30) largest (refusedBy 7)
+    ∷ row "S11.27" (oneCheck 1 2 100 (replicate 16 1) (ending 30)) largest (settled 580 3 3)
+    ∷ row "S11.28" (sheetE (1 ∷ 1 ∷ 2 ∷ 2 ∷ 2 ∷ [])) largest (settled 41 4 5)
+    ∷ row "S11.29" (sheetE (1 ∷ 2 ∷ 1 ∷ [])) largest (refusedBy 6)
+    ∷ row "S11.29" (sheetE (0 ∷ 0 ∷ [])) largest (refusedBy 6)
+    ∷ row "S11.29" (sheetE (3 ∷ 3 ∷ [])) largest (refusedBy 6)
+    ∷ row "S11.31" (sheetF 0 0 0) largest (noneLeft 1 1)
+    ∷ row "S11.31" (sheetF 0 0 0) 1 (noneLeft 1 1)
+    ∷ row "S11.31" (carriedOn (sheetF 0 0 0) 1) largest (noneLeft 1 0)
+    ∷ row "S11.32" (sheetF noPlan 0 0) largest (noneLeft 1 0)
+    ∷ row "S11.32" (sheetF 1000000002 0 0) largest (refusedBy 5)
+    ∷ row "S11.33" (sheetF noPlan 1 0) largest accepts
+    ∷ row "S11.33" (sheetF ceiling 1 0) largest (refusedBy 8)
+    ∷ row "S11.33" (sheetF 0 1 0) largest (refusedBy 8)
+    ∷ row "S11.34" (sheetF 0 0 1) largest (refusedBy 5)
+    ∷ row "S11.34" (sheetF noPlan 1 1) largest (refusedBy 5)
+    ∷ row "S11.35" (endingAt noPlan) largest (refusedBy 7)
+    ∷ row "S11.35" (endingAt 1000000002) largest (refusedBy 5)
+    ∷ row "S11.36" (take 16 (sheetF 0 0 0)) largest (refusedBy 2)
+    ∷ row "S11.36" (take 19 (oneEnding 0)) largest (refusedBy 4)
+    ∷ row "S11.37" (sheetG worst) largest (settled 130 4 5)
+    ∷ row "S11.37" (sheetG whole) largest (settled 130 4 5)
+    ∷ row "S11.38" sheetH largest (noneLeft 3 3)
+    ∷ row "S11.39" sheetH 2 (stopped 10 2 2)
+    ∷ row "S11.39" (carriedOn sheetH 2) largest (noneLeft 2 1)
+    ∷ row "S11.40" (sheetI (action 1 (13 ∷ []) ∷ action 1 (1 ∷ 2 ∷ []) ∷ [])) largest (over 1000000000 1 1)
+    ∷ row "S11.40" (sheetI (action 1 (1 ∷ 2 ∷ 13 ∷ []) ∷ [])) largest (noneLeft 2 2)
+    ∷ row "S11.42" (sheetJ 2) largest (settled 500 3 3)
+    ∷ row "S11.42" (take 38 (sheetJ 2) ++ countedField 1 ++ drop 47 (sheetJ 2)) largest (settled 500 3 3)
+    ∷ row "S11.43" (sheetJ 2) 2 (stopped 200 2 2)
+    ∷ row "S11.43" (carriedOn (sheetJ 2) 2) largest (settled 500 2 1)
+    ∷ row "S11.44" (sheetJ 1) largest (refusedBy 10)
+    ∷ row "S11.44" (sheetJ 3) largest (refusedBy 10)
+    ∷ row "S11.44" (sheetJ 0) largest (refusedBy 10)
+    ∷ row "S11.44" (sheetJ 200) largest (refusedBy 10)
+    ∷ row "S11.45" (without 28 9 sheetA) largest (settled 700 4 6)
+    ∷ row "S11.45" (without 29 9 (sheetJ 2)) largest (refusedBy 10)
+    ∷ row "S11.45" (without 18 11 (sheetJ 2)) largest (refusedBy 10)
+    ∷ row "S11.46" ((1 ∷ 0 ∷ 5 ∷ 0 ∷ 0 ∷ 1 ∷ 0 ∷ 0 ∷ []) ++ countedField 0) largest (noneLeft 1 1)
+    ∷ row "S11.46" ((1 ∷ 0 ∷ 5 ∷ 0 ∷ 0 ∷ 1 ∷ 0 ∷ 0 ∷ []) ++ countedField 1) largest (refusedBy 10)
+    ∷ row "S11.47" (manyChecks (countedField 16) 16) largest accepts
+    ∷ row "S11.47" (manyChecks (countedField 17) 16) largest (refusedBy 10)
+    ∷ row "S11.47" (manyChecks (countedField 17) 17) largest (refusedBy 4)
+    -- the last field is cut, check 0 costs 0, its first finding is junction 0, the budget is 0
+    ∷ row "S11.48" (take 81 (sheetJ 1)) largest (refusedBy 4)
+    ∷ row "S11.48" (set (sheetJ 1) 24 0) largest (refusedBy 10)
+    ∷ row "S11.48" (set (sheetJ 1) 26 0) largest (refusedBy 10)
+    ∷ row "S11.48" (sheetJ 1) 0 (refusedBy 10)
+    ∷ row "S11.49" (set (sheetJ 2) 8 3) largest (refusedBy 4)
+    ∷ row "S11.49" (set sheetA 8 5) largest (refusedBy 4)
+    ∷ row "S11.50" (take 37 sheetA ++ countedField 2 ++ drop 46 sheetA) largest (refusedBy 10)
     -- beside those of S11
-    ∷ row (set sheetA 23 0) largest (refusedBy 5)
-    ∷ row abandoned largest (settled 150 1 1)
-    ∷ row (carriedOn abandoned largest) largest (settled 150 1 0)
-    ∷ row (atCeiling 5) largest (over 1000000000 1 0)
-    ∷ row (atCeiling 9) largest (over 1000000000 1 0)
-    ∷ row (atCeiling 16) largest (over 1000000000 1 0)
+    ∷ row "5 at the ceiling" (atCeiling 5) largest (over 1000000000 1 0)
+    ∷ row "9 at the ceiling" (atCeiling 9) largest (over 1000000000 1 0)
+    ∷ row "16 at the ceiling" (atCeiling 16) largest (over 1000000000 1 0)
+    ∷ row "refusal 5" (set sheetA 23 0) largest (refusedBy 5)
+    ∷ row "an abandoned check" abandoned largest (settled 150 1 1)
+    ∷ row "an abandoned check, carried on" (carriedOn abandoned largest) largest (settled 150 1 0)
+    ∷ row "J stopped, a check lost" (without 29 9 (carriedOn (sheetJ 2) 2)) largest (refusedBy 10)
     ∷ []
 
 -- row i of a table
 abbrev pub rowAt : List Row → ℕ → Row
-rowAt rs i = getD rs i (row [] 0 accepts)
+rowAt rs i = getD rs i (row "" [] 0 accepts)
