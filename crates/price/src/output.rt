@@ -6,13 +6,13 @@ use listing::write_number;
 use model::Outcome;
 
 // Says on standard error what failed and why (S10.6). The reason is errno's, which the write before it leaves alone where it succeeds.
-pub fn fail(what: &[u8]) {
+pub(crate) fn fail(what: &[u8]) {
     io::write_all(STDERR_FILENO, b"price: ");
     os::fail(what);
 }
 
 // Writes a listing on standard output, or says why it cannot (S10.2, S10.6).
-pub fn write(text: &[u8]) {
+pub(crate) fn write(text: &[u8]) {
     if !io::write_all(STDOUT_FILENO, text) {
         fail(b"standard output");
     }
@@ -26,7 +26,7 @@ fn write_decimal(fd: i32, x: u64) {
 }
 
 // Explains a refusal on standard error (S10.5); no other outcome needs it.
-pub fn explain(o: Outcome) {
+pub(crate) fn explain(o: Outcome) {
     match o {
         Outcome::Refused(n) => {
             io::write_all(STDERR_FILENO, b"price: refused ");

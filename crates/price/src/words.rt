@@ -1,7 +1,7 @@
 // How the program is used, and why a sheet is refused, in words.
 
 // Writes how the program is used (S10.8), and answers whether all of it was written.
-pub fn usage(fd: i32) -> bool {
+pub(crate) fn usage(fd: i32) -> bool {
     io::write_all(
         fd,
         b"usage: price [FILE]
@@ -23,7 +23,7 @@ docs/SPEC.md, S10, has it all.
 
 // Writes the id of the question with this number and what its "no" means (S4, S10.5), and ends the line. A number that no question has
 // gets no words.
-pub fn words(fd: i32, n: u32) -> bool {
+pub(crate) fn words(fd: i32, n: u32) -> bool {
     match n {
         1 => io::write_all(
             fd,
