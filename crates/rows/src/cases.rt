@@ -1,62 +1,107 @@
-// A case by itself, on buffers of its own: a sheet, and in it the number of `size` bytes at `at` changed to `x`. Nothing is changed where
-// `size` is 0.
-use super::bytes::copy;
-use super::fields::ending;
-use super::fields::head;
-use super::fields::put_number;
-use super::lines::LARGEST;
-use super::lines::ask_line;
-use super::lines::work_line;
-use super::sheets::B;
+// A case: a call of `check` or of `solve` under its options, and its line.
+use super::LONGEST;
+use super::MOST;
+use super::answers::asked;
+use super::answers::worked;
+use super::table::show;
+use super::table::spoil;
+use super::table::tally;
+use super::words::number;
+use super::words::word;
 use model::MAX_STATES;
 
-// Writes a sheet with a number changed, which may lie just past its end, and answers its number of bytes.
-pub fn lay(sheet: &mut [u8], base: &[u8], at: usize, size: usize, x: u32) -> usize {
-    let n = copy(sheet, 0, base);
-    let end = put_number(sheet, at, size, x);
-    if n < end { end } else { n }
+// The largest budget.
+const LARGEST: u64 = 18446744073709551615;
+
+// What the next case is run with: its budget, the most bytes of the sheet, the table's entries (0 where its line does not speak of the
+// table), and which entries are printed.
+pub(crate) struct Options {
+    pub(crate) budget: u64,
+    pub(crate) bytes: usize,
+    pub(crate) entries: usize,
+    pub(crate) from: usize,
+    pub(crate) end: usize,
 }
 
-// A line of `check`.
-pub fn ask(label: &[u8], base: &[u8], at: usize, size: usize, x: u32) {
-    let mut sheet = [0u8; 128];
-    let mut table = [0u32; MAX_STATES];
-    let n = lay(&mut sheet, base, at, size, x);
-    ask_line(label, &sheet, n, &mut table);
+// The options of a case that has none.
+pub(crate) fn plain() -> Options {
+    Options {
+        budget: LARGEST,
+        bytes: MOST,
+        entries: 0,
+        from: 0,
+        end: 0,
+    }
 }
 
-// A line of `check` on sheet B.
-pub fn ask_b(label: &[u8], at: usize, size: usize, x: u32) {
-    ask(label, &B, at, size, x);
+// The options after the line of one, whose numbers are these.
+pub(crate) fn option(options: Options, command: u8, first: u64, last: u64) -> Options {
+    let mut o = options;
+    match command {
+        b'$' => {
+            o.budget = last;
+            o
+        }
+        b'^' => {
+            o.bytes = last as usize;
+            o
+        }
+        b'%' => {
+            o.entries = last as usize;
+            o
+        }
+        _ => {
+            o.from = first as usize;
+            o.end = last as usize;
+            o
+        }
+    }
 }
 
-// A line of `check` on one ending.
-pub fn ask_ending(label: &[u8], cost: u32, value: u32, mark: u32) {
-    let mut sheet = [0u8; 20];
-    let mut table = [0u32; MAX_STATES];
-    let at = head(&mut sheet, 1);
-    let n = ending(&mut sheet, at, cost, value, mark);
-    ask_line(label, &sheet, n, &mut table);
+// The end of a label that speaks of the table.
+fn heading(entries: usize) {
+    if 0 < entries {
+        word(b"-table");
+        number(entries as u64);
+    }
 }
 
-// A line of `solve`.
-pub fn work(label: &[u8], base: &[u8], at: usize, size: usize, x: u32, budget: u64) {
-    let mut sheet = [0u8; 128];
-    let mut table = [0u32; MAX_STATES];
-    let n = lay(&mut sheet, base, at, size, x);
-    work_line(label, &mut sheet, n, &mut table, budget);
+// The call: `solve` at `!` and `+`, and `check` at `?` and `.`.
+fn call(
+    command: u8,
+    sheet: &mut [u8; MOST],
+    n: usize,
+    table: &mut [u32; LONGEST],
+    size: usize,
+    budget: u64,
+) {
+    match command {
+        b'!' | b'+' => {
+            let before = *sheet;
+            worked(sheet, n, table, size, budget, &before)
+        }
+        _ => asked(sheet, n, table, size),
+    }
 }
 
-// A line of `solve` on sheet B with the largest budget.
-pub fn work_b(label: &[u8], at: usize, size: usize, x: u32) {
-    work(label, &B, at, size, x, LARGEST);
+// The end of a line that speaks of the table.
+fn ending(entries: usize, table: &[u32; LONGEST]) {
+    if 0 < entries {
+        tally(table, entries);
+    }
+    word(b"\n");
 }
 
-// A sheet worked with a budget, and that sheet carried on.
-pub fn carried_on(worked: &[u8], on: &[u8], base: &[u8], budget: u64) {
-    let mut sheet = [0u8; 128];
-    let mut table = [0u32; MAX_STATES];
-    let n = lay(&mut sheet, base, 0, 0, 0);
-    work_line(worked, &mut sheet, n, &mut table, budget);
-    work_line(on, &mut sheet, n, &mut table, LARGEST);
+// A case on the first `n` bytes of a sheet, or on fewer: its line behind its label.
+pub(crate) fn case(command: u8, sheet: &mut [u8; MOST], n: usize, o: Options) {
+    let mut table = [0u32; LONGEST];
+    let most = o.bytes;
+    let entries = o.entries;
+    let n = if most < n { most } else { n };
+    let size = if entries == 0 { MAX_STATES } else { entries };
+    spoil(&mut table);
+    heading(entries);
+    call(command, sheet, n, &mut table, size, o.budget);
+    show(&table, o.from, o.end);
+    ending(entries, &table);
 }

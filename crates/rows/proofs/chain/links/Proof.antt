@@ -1,19 +1,14 @@
--- `rows::large::links` is safe and ends. The invariant keeps the slice's length, and the measure is what is left to do.
-use mathlib.Core.Path.{_≡_}
+-- `rows::chain::links` is safe and ends. The measure is what is left to do.
 use Prim.Native.Nat.{_≤_, _-_}
-use lib.ListN.{length}
 use borrow.Author.Needs.{needs}
-use Rattle.rows.proofs.large.links.Statement.{statement}
-use Rattle.rows.proofs.large.links.Tie as tie
+use Rattle.rows.proofs.chain.links.Statement.{statement}
+use Rattle.rows.proofs.chain.links.Tie as tie
 
 abbrev Inv-loop : tie.InvT-loop
-Inv-loop sheet₀ cost at₀ i₀ sheet at i = (i ≤ 999) × (length sheet ≡ length sheet₀)
+Inv-loop sheet₀ start cost at₀ i₀ sheet at i = i ≤ 999
 
 abbrev μ-loop : tie.MeasureT-loop
-μ-loop sheet₀ cost at₀ i₀ sheet at i = 999 - i
-
-head-requires : tie.Need-head-requires Inv-loop μ-loop
-head-requires c κs = search needs
+μ-loop sheet₀ start cost at₀ i₀ sheet at i = 999 - i
 
 loop-holds : tie.Need-loop-holds Inv-loop μ-loop
 loop-holds c = search needs
@@ -57,9 +52,6 @@ loop-less c = search needs
 loop-again : tie.Need-loop-again Inv-loop μ-loop
 loop-again c = search needs
 
-same-length : tie.Need-same-length Inv-loop μ-loop
-same-length c = search needs
-
 returns : tie.Need-returns Inv-loop μ-loop
 returns c = search needs
 
@@ -69,7 +61,6 @@ links-spec =
     (tie.spec
     Inv-loop
     μ-loop
-    head-requires
     loop-holds
     put-number-requires
     sub-put-number
@@ -84,5 +75,4 @@ links-spec =
     add-i
     loop-less
     loop-again
-    same-length
     returns)

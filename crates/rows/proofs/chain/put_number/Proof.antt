@@ -1,12 +1,10 @@
--- `rows::fields::put_number` is safe and ends. The invariant keeps the slice's length, and the measure is what is left to do.
-use mathlib.Core.Path.{_≡_}
-use lib.ListN.{length}
+-- `rows::chain::put_number` is safe and ends. The invariant says nothing, and the measure is what is left to do.
 use borrow.Author.Needs.{needs}
-use Rattle.rows.proofs.fields.put_number.Statement.{statement}
-use Rattle.rows.proofs.fields.put_number.Tie as tie
+use Rattle.rows.proofs.chain.put_number.Statement.{statement}
+use Rattle.rows.proofs.chain.put_number.Tie as tie
 
 abbrev Inv-loop : tie.InvT-loop
-Inv-loop sheet₀ at size x next₀ left₀ sheet next left = length sheet ≡ length sheet₀
+Inv-loop sheet₀ at size x next₀ left₀ sheet next left = Unit {0}
 
 abbrev μ-loop : tie.MeasureT-loop
 μ-loop sheet₀ at size x next₀ left₀ sheet next left = left
@@ -29,9 +27,6 @@ loop-less c = search needs
 loop-again : tie.Need-loop-again Inv-loop μ-loop
 loop-again c = search needs
 
-same-length : tie.Need-same-length Inv-loop μ-loop
-same-length c = search needs
-
 returns : tie.Need-returns Inv-loop μ-loop
 returns c = search needs
 
@@ -47,5 +42,4 @@ put-number-spec =
     put-requires
     loop-less
     loop-again
-    same-length
     returns)
