@@ -39,7 +39,7 @@ prime() {
   fi
 }
 
-# apply EDIT FOLDER: replaces each 'old:' by its 'new:' in the file that the 'file:' before it names; says what is wrong with an edit that cannot be applied
+# apply EDIT FOLDER: replaces each 'old:' by its 'new:' in the file that the 'file:' before it names, or says why that cannot be done
 apply() {
   local line file='' old='' pairs=0
   while IFS= read -r line || [ -n "$line" ]; do
@@ -94,7 +94,8 @@ if [ $# -gt 0 ]; then
 fi
 rm -rf "$here"/copy-* && mkdir -p "$here/kept"
 for ((slot = 0; slot < jobs; slot++)); do
-  mkdir -p "$here/copy-$slot/target" && cp -r crates.txt crates "$here/copy-$slot" && cp -r target/rlib target/stamp "$here/copy-$slot/target" || exit 2
+  mkdir -p "$here/copy-$slot/target" && cp -r crates.txt crates "$here/copy-$slot" && cp -r target/stamp "$here/copy-$slot/target" || exit 2
+  ln -s "$PWD/target/rlib" "$here/copy-$slot/target/rlib" || exit 2
 done
 # the largest crates first, so that no job is left with one at the end
 sed 's|/.*||' <<<"$edits" | sort -u | while read -r crate; do du -s "crates/$crate"; done | sort -rn | sed 's|.*/||' |
