@@ -19,7 +19,7 @@ change s old new = record { stage = s; old = old; new = new }
 -- from one search to another by steps of the procedure, and the changes of values on the way. A raise gives an open stage the value that
 -- the Bellman equation has there by the values as they are: an ending's cost, the least price of a junction's checks, none where there are
 -- no checks. It is larger than the old one, and `raised` counts it as one. A mark (`marked`) changes no value and counts nothing. There
--- are no other steps.
+-- are no other steps: an update to the value that is there already leaves the search as it is.
 pub data History (p : Problem) : Search → List Change → Search → Type 0 where
   nothing : {w : Search} → History p w [] w
   raise : {w w′ : Search} {more : List Change} (s x : ℕ) → s < states p → solvedAt w s ≡ false →

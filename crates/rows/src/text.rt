@@ -33,8 +33,8 @@ pub(crate) struct Line {
 // A line of this command. With 0 it has not begun.
 fn begun(command: u8, part: u8) -> Line {
     Line {
-        command: command,
-        part: part,
+        command,
+        part,
         first: 0,
         last: 0,
         half: NONE,

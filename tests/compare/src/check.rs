@@ -154,7 +154,8 @@ fn worked(first: &Sheet, last: &Sheet, raises: u64) -> Result<(), String> {
     }
 }
 
-/// A settled start has the least cost, and up to the ceiling its plan is complete, costs that, cut, and reaches settled states only (S8.2, S8.3).
+/// A settled start has the least cost, and up to the ceiling its plan is complete, costs that, cut, and reaches settled states only
+/// (S8.2, S8.3).
 fn plan_is_best(sheet: &Sheet, least: &[Cost]) -> Result<(), String> {
     let (price, due) = (sheet.cells[sheet.start].value, written(least[sheet.start]));
     if price != due {
