@@ -8,7 +8,7 @@
  * calls it ends, settled or not. Exit status: 0 where the start is settled, also where it has no complete plan, 2 where it is still open, 1
  * where the sheet is refused or a file fails.
  *
- * C99 with two functions of POSIX (fileno, fsync), and C++11. Built against an installed library (install.sh PREFIX):
+ * C99 with functions of POSIX for the file, and C++11. Built against an installed library (install.sh PREFIX):
  *
  *     cc -std=c99 host.c -IPREFIX/include -LPREFIX/lib -lldfs -o host
  */
@@ -17,13 +17,16 @@
 #include <ldfs.h>
 
 #include <errno.h>
+#include <fcntl.h>
 #include <inttypes.h>
+#include <limits.h>
 #include <stdio.h>
 #include <stdlib.h>
 #include <string.h>
+#include <sys/stat.h>
 #include <unistd.h>
 
-enum { DONE = 0, FAILED = 1, STILL_OPEN = 2 };
+enum { DONE = 0, FAILED = 1, STILL_OPEN = 2, LINKS_MOST = 40 };
 
 /* What the host lends to every call. One byte more than the longest sheet, so that a longer file is refused and not cut. */
 static uint8_t sheet[LDFS_SHEET_MOST + 1];
@@ -63,7 +66,7 @@ static uint64_t little(const uint8_t *at, int bytes)
     return x;
 }
 
-/* Says what failed. The answer is "no". */
+/* Says what failed, and the system's reason. The answer is "no". */
 static int failure(const char *name)
 {
     fprintf(stderr, "host: %s: %s\n", name, errno != 0 ? strerror(errno) : "failed");
@@ -82,22 +85,102 @@ static int load(const char *name, size_t *length)
     return good;
 }
 
-/* The sheet goes to a file of its own, which then takes the place of the old one in one step (rename): whenever the host or the machine
-   ends, the file named holds the sheet of before or this one, and never a part of it. */
+/* Says what failed where the system gives no reason. The answer is "no". */
+static int complaint(const char *name, const char *why)
+{
+    fprintf(stderr, "host: %s: %s\n", name, why);
+    return 0;
+}
+
+/* The name of the file that a name stands for: where it is that of a symbolic link, the name that the link leads to, and so on. The file
+   itself need not be there yet. */
+static int follow(const char *name, char *real, size_t room)
+{
+    char link[PATH_MAX];
+    if (strlen(name) >= room)
+        return complaint(name, "the name is too long");
+    strcpy(real, name);
+    for (int links = 0; links < LINKS_MOST; links++) {
+        ssize_t length = readlink(real, link, sizeof link - 1);
+        if (length < 0)
+            return errno == EINVAL || errno == ENOENT || failure(real); /* it is no link, or nothing yet */
+        link[length] = '\0';
+        char *slash = strrchr(real, '/');
+        char *from = link[0] == '/' || slash == NULL ? real : slash + 1; /* a link leads on from its own folder */
+        if ((size_t)(from - real) + (size_t)length >= room)
+            return complaint(name, "a link on the way leads to a name that is too long");
+        strcpy(from, link);
+    }
+    return complaint(name, "too many links");
+}
+
+/* The new file gets the mode, the owner and the group of the one whose place it takes; where there is none, the mode that any new file of
+   this process has. Access lists and other names (hard links) of the old file are not carried over. */
+static int take_after(int file, const struct stat *old)
+{
+    struct stat own;
+    if (old == NULL) {
+        mode_t mask = umask(0);
+        umask(mask);
+        return fchmod(file, 0666 & ~mask) == 0;
+    }
+    return fstat(file, &own) == 0 && ((own.st_uid == old->st_uid && own.st_gid == old->st_gid) || fchown(file, old->st_uid, old->st_gid) == 0)
+        && fchmod(file, old->st_mode & 07777) == 0;
+}
+
+/* Writes the sheet and waits until the disk has it. */
+static int write_all(int file, size_t length)
+{
+    for (size_t done = 0; done < length;) {
+        ssize_t more = write(file, sheet + done, length - done);
+        if (more == 0 || (more < 0 && errno != EINTR))
+            return 0;
+        done += more < 0 ? 0 : (size_t)more;
+    }
+    return fsync(file) == 0;
+}
+
+/* A renamed file is sure to have its new name after the machine ends only once its folder is on the disk too. */
+static int sync_folder(char *name)
+{
+    char *slash = strrchr(name, '/');
+    if (slash != NULL && slash != name)
+        *slash = '\0';
+    int folder = open(slash == NULL ? "." : slash == name ? "/" : name, O_RDONLY);
+    if (folder < 0)
+        return 0;
+    int good = fsync(folder) == 0 || errno == EINVAL; /* some file systems cannot, and need not */
+    close(folder);
+    return good;
+}
+
+/* The sheet goes to a new file beside the old one, with a name that nothing else has, and takes the old one's place in one step (rename)
+   once the disk has it: whenever the host or the machine ends, the file named holds the sheet of before or this one, and never a part of
+   it. Where the host is ended in between, that new file may be left, SHEET.tmp. and six letters. */
 static int save(const char *name, size_t length)
 {
-    char temporary[4096];
-    errno = 0;
-    int written = snprintf(temporary, sizeof temporary, "%s.tmp", name);
-    if (written < 0 || (size_t)written >= sizeof temporary)
-        return failure("the name of the file is too long");
-    FILE *file = fopen(temporary, "wb");
-    if (file == NULL)
-        return failure(temporary);
-    int good = (fwrite(sheet, 1, length, file) == length && fflush(file) == 0 && fsync(fileno(file)) == 0) || failure(temporary);
-    if (fclose(file) != 0 && good)
-        good = failure(temporary);
-    return good && (rename(temporary, name) == 0 || failure(name));
+    char real[PATH_MAX], temporary[PATH_MAX + 16];
+    struct stat old;
+    if (!follow(name, real, sizeof real))
+        return 0;
+    int there = stat(real, &old) == 0;
+    if (!there && errno != ENOENT)
+        return failure(name);
+    if (there && !S_ISREG(old.st_mode))
+        return complaint(name, "not a plain file");
+    if (there && access(real, W_OK) != 0)
+        return failure(name);
+    snprintf(temporary, sizeof temporary, "%s.tmp.XXXXXX", real);
+    int file = mkstemp(temporary);
+    if (file < 0)
+        return failure(name);
+    int good = (take_after(file, there ? &old : NULL) && write_all(file, length)) || failure(name);
+    if (close(file) != 0 && good)
+        good = failure(name);
+    good = good && (rename(temporary, real) == 0 || failure(name));
+    if (!good)
+        unlink(temporary);
+    return good && (sync_folder(real) || failure(name));
 }
 
 /* The end of a field, by its own length, which is where the next field begins. */

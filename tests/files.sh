@@ -1,0 +1,94 @@
+#!/usr/bin/env bash
+# What a host built from examples/host.c does to files, tried in a folder of its own:
+#
+#     tests/files.sh HOST
+#
+# It says what is not as it should be; the exit status is 0 only where everything is.
+set -u
+here=$(cd "$(dirname "$0")/.." && pwd)
+host=$(realpath "$1")
+folder=$(mktemp -d)
+trap 'rm -rf "$folder"' EXIT
+cd "$folder" || exit 2
+umask 022
+failures=0
+
+# holds SENTENCE TEST..: the sentence, where the test fails
+holds() {
+  local sentence=$1
+  shift
+  "$@" || { failures=$((failures + 1)) && echo "not so: $sentence"; }
+}
+
+# fresh: the folder holds sheet A alone, as a.sheet
+fresh() {
+  rm -rf ./* && cp "$here/samples/a.sheet" a.sheet && chmod 644 a.sheet
+}
+
+# settled FILE: work was done there, and is not left to do; blank FILE: nothing was done there
+settled() {
+  [ "$("$host" -o spare "$1" | head -n 1)" = "settled: the least cost is 500 cents (passes 1, raises 0)" ]
+}
+blank() {
+  cmp -s "$1" "$here/samples/a.sheet"
+}
+
+# says MESSAGE ARGUMENT..: the host fails, with just this on standard error
+says() {
+  local message=$1 said
+  shift
+  said=$("$host" "$@" 2>&1 >/dev/null)
+  [ $? -eq 1 ] && [ "$said" = "$message" ]
+}
+
+# only NAME..: the folder holds these names and no other
+only() {
+  [ "$(ls -A | sort)" = "$(printf '%s\n' "$@" | sort)" ]
+}
+
+for mode in 640 600 664 755; do
+  fresh && chmod $mode a.sheet && "$host" a.sheet >/dev/null
+  holds "a file of mode $mode keeps it" [ "$(stat -c %a a.sheet)" = $mode ]
+  holds "and is worked" settled a.sheet
+done
+fresh && "$host" -o new.sheet a.sheet >/dev/null
+holds "a new file has the mode of any new file" [ "$(stat -c %a new.sheet)" = 644 ]
+holds "the sheet that was read stays where another file is named" blank a.sheet
+
+fresh && mkdir store && mv a.sheet store/real.sheet && ln -s real.sheet store/next && ln -s store/next link && "$host" link >/dev/null
+holds "a link stays a link" [ "$(readlink link) $(readlink store/next)" = "store/next real.sheet" ]
+holds "the file behind two links is worked" settled store/real.sheet
+holds "nothing else is left beside it" [ "$(ls store)" = $'next\nreal.sheet' ]
+fresh && mkdir store && ln -s "$PWD/store/new.sheet" link && "$host" -o link a.sheet >/dev/null
+holds "a link to a file that is not there yet stays a link" [ -L link ]
+holds "and the file is made where it leads" settled store/new.sheet
+fresh && ln -s round link && ln -s link round
+holds "links that lead round are said" says "host: link: too many links" -o link a.sheet
+
+fresh && echo mine >a.sheet.tmp && "$host" a.sheet >/dev/null
+holds "another program's a.sheet.tmp stays" [ "$(cat a.sheet.tmp)" = mine ]
+holds "and the sheet is worked" settled a.sheet
+rm -f spare && holds "no file is left over" only a.sheet a.sheet.tmp
+
+fresh && mkdir other && holds "a folder is not replaced" says "host: other: not a plain file" -o other a.sheet
+mkfifo pipe && holds "nor is a pipe" says "host: pipe: not a plain file" -o pipe a.sheet
+holds "and no file is left over" only a.sheet other pipe
+holds "a folder that is missing is said" says "host: none/a.sheet: No such file or directory" -o none/a.sheet a.sheet
+if [ "$(id -u)" -eq 0 ]; then
+  fresh && chown 1234:5678 a.sheet && "$host" a.sheet >/dev/null
+  holds "a file keeps its owner and its group" [ "$(stat -c %u:%g a.sheet)" = 1234:5678 ]
+else
+  fresh && chmod 444 a.sheet && holds "a file that may not be written stays" says "host: a.sheet: Permission denied" a.sheet
+  holds "and is blank" blank a.sheet
+fi
+
+cc -std=c99 -Wall -Wextra -Werror -shared -fPIC "$here/tests/c/recorded.c" -o "$folder/.recorded.so" || exit 1
+fresh && RECORD=record LD_PRELOAD=$folder/.recorded.so "$host" a.sheet >/dev/null
+holds "the file is synced, then renamed, then its folder is synced" [ "$(cat record)" = $'sync of the file\nrename\nsync of the folder' ]
+fresh && SYNC_FAILS=1 LD_PRELOAD=$folder/.recorded.so "$host" a.sheet >said 2>&1
+holds "a sync that fails ends the host" [ $? -eq 1 ]
+holds "it is said" [ "$(tail -n 1 said)" = "host: a.sheet: Input/output error" ]
+holds "the sheet stays as it was" blank a.sheet
+rm -f said && holds "and no file is left over" [ "$(ls)" = a.sheet ]
+
+[ "$failures" -eq 0 ]
