@@ -17,6 +17,23 @@ pub record Wrote (before after : List ℕ) (at next : ℕ) (text : List ℕ) : T
   pub bytes : after ≡ placed at text before
   pub behind : next ≡ at + length text
 
+-- The most digits of a number of 64 bits; and with so many for every number the most bytes of the parts of a line: a refusal's line; behind an outcome's word three numbers; a
+-- stage's ` check ` with a number, or ` end`; behind its value ` by ` with a number, and the line's end.
+abbrev pub maxDigits : ℕ
+maxDigits = 20
+
+abbrev pub maxRefused : ℕ
+maxRefused = 29
+
+abbrev pub maxFigures : ℕ
+maxFigures = 63
+
+abbrev pub maxChoice : ℕ
+maxChoice = 27
+
+abbrev pub maxLineEnd : ℕ
+maxLineEnd = 25
+
 -- what listing a sheet supposes: it is in place and its problem well formed, as work leaves them, and the start's plan is complete, as it
 -- is when settled
 pub record Listable (s t : List ℕ) : Type 0 where

@@ -8,7 +8,7 @@ ghost use Rattle.sheet.specs.Sheet.{Within};
 ghost use Rattle.listing.specs.Text.{ascii};
 ghost use Rattle.listing.specs.Listing.{field, figures, lineOne, choiceOf, dearestChosen, lineEnd, stateLine};
 ghost use Rattle.listing.specs.Listing.{maxLineOne, maxStateLine};
-ghost use Rattle.listing.specs.Put.{Wrote, Listable, Chooses};
+ghost use Rattle.listing.specs.Put.{Wrote, maxRefused, maxFigures, maxChoice, maxLineEnd, Listable, Chooses};
 use super::text::put_field;
 use super::text::put_word;
 use model::Answer;
@@ -23,9 +23,9 @@ use sheet::pricing::price;
 
 // `refused` and the number.
 fn put_refused(out: &mut [u8], at: usize, n: u32) -> usize
-    requires { ⌜ at + 29 ≤ length (now out) ⌝ }
+    requires { ⌜ at + maxRefused ≤ length (now out) ⌝ }
     ensures { λ r. ⌜ Wrote (now (out .entry)) (now (out .exit)) at r (field (ascii "refused ") n ++ ascii "\n") ⌝ }
-    ensures { λ r. ⌜ r ≤ at + 29 ⌝ }
+    ensures { λ r. ⌜ r ≤ at + maxRefused ⌝ }
 {
     let next = put_field(out, at, b"refused ", word_to_long(n));
     put_word(out, next, b"\n")
@@ -33,9 +33,9 @@ fn put_refused(out: &mut [u8], at: usize, n: u32) -> usize
 
 // An outcome's word, the start's value, passes and raises.
 fn put_figures(out: &mut [u8], at: usize, word: &[u8], a: Answer) -> usize
-    requires { ⌜ at + length (now word) + 63 ≤ length (now out) ⌝ }
+    requires { ⌜ at + length (now word) + maxFigures ≤ length (now out) ⌝ }
     ensures { λ r. ⌜ Wrote (now (out .entry)) (now (out .exit)) at r (figures (now (word .entry)) a) ⌝ }
-    ensures { λ r. ⌜ r ≤ at + length (now (word .entry)) + 63 ⌝ }
+    ensures { λ r. ⌜ r ≤ at + length (now (word .entry)) + maxFigures ⌝ }
 {
     let next = put_field(out, at, word, a.price);
     let next = put_field(out, next, b" ", a.passes);
@@ -62,10 +62,10 @@ pub(crate) fn put_answer(out: &mut [u8], at: usize, a: Answer) -> usize
 // A state's chosen action, or `end`.
 fn put_choice(sheet: &[u8], table: &[u32], out: &mut [u8], at: usize, state: usize) -> usize
     requires { ⌜ Within (now sheet) (now table) state ⌝ }
-    requires { ⌜ at + 27 ≤ length (now out) ⌝ }
+    requires { ⌜ at + maxChoice ≤ length (now out) ⌝ }
     ensures { λ r. ⌜ Wrote (now (out .entry)) (now (out .exit)) at r
         (choiceOf (nodeAt (problemOf (now (sheet .entry))) state) (cellOf (cellsOf (now (sheet .entry))) state)) ⌝ }
-    ensures { λ r. ⌜ r ≤ at + 27 ⌝ }
+    ensures { λ r. ⌜ r ≤ at + maxChoice ⌝ }
 {
     if is_terminal(sheet, table, state) {
         put_word(out, at, b" end")
@@ -84,11 +84,11 @@ fn put_line_end(sheet: &[u8], table: &[u32], out: &mut [u8], at: usize, state: u
     requires { ⌜ Listable (now sheet) (now table) ⌝ }
     requires { ⌜ state < states (problemOf (now sheet)) ⌝ }
     requires { ⌜ Chooses (problemOf (now sheet)) (cellsOf (now sheet)) state ⌝ }
-    requires { ⌜ at + 25 ≤ length (now out) ⌝ }
+    requires { ⌜ at + maxLineEnd ≤ length (now out) ⌝ }
     ensures { λ r. ⌜ Wrote (now (out .entry)) (now (out .exit)) at r
         (lineEnd (nodeAt (problemOf (now (sheet .entry))) state)
         (dearestChosen (problemOf (now (sheet .entry))) (cellsOf (now (sheet .entry))) state)) ⌝ }
-    ensures { λ r. ⌜ r ≤ at + 25 ⌝ }
+    ensures { λ r. ⌜ r ≤ at + maxLineEnd ⌝ }
 {
     if is_terminal(sheet, table, state) {
         return put_word(out, at, b"\n");

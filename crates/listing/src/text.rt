@@ -5,7 +5,7 @@ ghost use Prim.Native.Nat.{_+_, _<_, _≤_};
 ghost use lib.ListN.{length};
 ghost use Rattle.listing.specs.Text.{lastDigit, decimal};
 ghost use Rattle.listing.specs.Listing.{field};
-ghost use Rattle.listing.specs.Put.{Wrote};
+ghost use Rattle.listing.specs.Put.{Wrote, maxDigits};
 use super::width::width;
 
 // One byte.
@@ -56,9 +56,9 @@ pub(crate) fn put_number(out: &mut [u8], at: usize, x: u64) -> usize
 
 // A word, and a number behind it.
 pub(crate) fn put_field(out: &mut [u8], at: usize, word: &[u8], x: u64) -> usize
-    requires { ⌜ at + length (now word) + 20 ≤ length (now out) ⌝ }
+    requires { ⌜ at + length (now word) + maxDigits ≤ length (now out) ⌝ }
     ensures { λ r. ⌜ Wrote (now (out .entry)) (now (out .exit)) at r (field (now (word .entry)) x) ⌝ }
-    ensures { λ r. ⌜ r ≤ at + length (now (word .entry)) + 20 ⌝ }
+    ensures { λ r. ⌜ r ≤ at + length (now (word .entry)) + maxDigits ⌝ }
 {
     let next = put_word(out, at, word);
     put_number(out, next, x)
