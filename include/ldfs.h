@@ -26,54 +26,54 @@
  */
 #define LDFS_VERSION_MAJOR 2
 #define LDFS_VERSION_MINOR 3
-#define LDFS_VERSION_PATCH 0
-#define LDFS_VERSION "2.3.0"
+#define LDFS_VERSION_PATCH 1
+#define LDFS_VERSION "2.3.1"
 
 #ifdef __cplusplus
 extern "C" {
 #endif
 
-/* Lengths in bytes, and limits. */
-#define LDFS_SHEET_LEAST 17      /* a sheet has at least this many bytes, */
-#define LDFS_SHEET_MOST 60000    /* and at most this many */
-#define LDFS_STAGES_MOST 4096    /* stages of a sheet, at most */
-#define LDFS_ENTRY_BYTES 4       /* an entry of the index table: 32 bits, least significant byte first */
-#define LDFS_TABLE_LEAST 16384   /* the index table: 4,096 entries, or more */
-#define LDFS_RESULT_LEAST 24     /* the result: three numbers of 64 bits, or more room */
-#define LDFS_STACK_BYTES 671744  /* stack that a call needs, at most: measured and rounded up (docs/HOST.md), not proved */
-#define LDFS_CEILING 1000000000  /* in cents: a value at the ceiling means "that much or more" [S2.7] */
-#define LDFS_NO_PLAN 1000000001  /* the value that is written for none: there is no complete plan [S2.11] */
+/* Lengths in bytes, and limits. These and the offsets below are unsigned, as the bytes and numbers are that they stand beside. */
+#define LDFS_SHEET_LEAST 17u     /* a sheet has at least this many bytes, */
+#define LDFS_SHEET_MOST 60000u   /* and at most this many */
+#define LDFS_STAGES_MOST 4096u   /* stages of a sheet, at most */
+#define LDFS_ENTRY_BYTES 4u      /* an entry of the index table: 32 bits, least significant byte first */
+#define LDFS_TABLE_LEAST 16384u  /* the index table: 4,096 entries, or more */
+#define LDFS_RESULT_LEAST 24u    /* the result: three numbers of 64 bits, or more room */
+#define LDFS_STACK_BYTES 671744u /* stack that a call needs, at most: measured and rounded up (docs/HOST.md), not proved */
+#define LDFS_CEILING 1000000000u /* in cents: a value at the ceiling means "that much or more" [S2.7] */
+#define LDFS_NO_PLAN 1000000001u /* the value that is written for none: there is no complete plan [S2.11] */
 
 /* Where the numbers stand in the result: eight bytes each, least significant first [S9.5]. */
-#define LDFS_RESULT_PRICE 0   /* the start's value, in cents: what it means depends on the outcome, below; 0 when refused */
-#define LDFS_RESULT_PASSES 8  /* passes begun by this call; 0 when refused */
-#define LDFS_RESULT_RAISES 16 /* raises made by this call; 0 when refused */
+#define LDFS_RESULT_PRICE 0u   /* the start's value, in cents: what it means depends on the outcome, below; 0 when refused */
+#define LDFS_RESULT_PASSES 8u  /* passes begun by this call; 0 when refused */
+#define LDFS_RESULT_RAISES 16u /* raises made by this call; 0 when refused */
 
 /*
  * Where things stand in a sheet [S3.2]. A field is its tag (one byte), the length of its content (two bytes), and the content. Numbers in a
  * sheet are most significant byte first. The head stands at 0; entry i of the index table is where stage i's field stands.
  */
-#define LDFS_FIELD_LENGTH 1   /* of any field: the length of its content, 2 bytes; the next field stands at 3 plus that */
-#define LDFS_FIELD_CONTENT 3
+#define LDFS_FIELD_LENGTH 1u    /* of any field: the length of its content, 2 bytes; the next field stands at 3 plus that */
+#define LDFS_FIELD_CONTENT 3u
 #define LDFS_HEAD_TAG 1
-#define LDFS_HEAD_KIND 3      /* 1 byte: 0 worst, 1 whole */
-#define LDFS_HEAD_STAGES 4    /* 2 bytes */
-#define LDFS_HEAD_START 6     /* 2 bytes */
+#define LDFS_HEAD_KIND 3u       /* 1 byte: 0 worst, 1 whole */
+#define LDFS_HEAD_STAGES 4u     /* 2 bytes */
+#define LDFS_HEAD_START 6u      /* 2 bytes */
 #define LDFS_ENDING_TAG 2
-#define LDFS_ENDING_COST 3    /* 4 bytes */
-#define LDFS_ENDING_VALUE 7   /* 4 bytes */
-#define LDFS_ENDING_MARK 11   /* 1 byte: 0 open, 1 settled */
-#define LDFS_JUNCTION_TAG 3   /* a plain junction */
-#define LDFS_COUNTED_TAG 5    /* a counted one, which also writes its number of checks [S3.6] */
-#define LDFS_JUNCTION_VALUE 3 /* 4 bytes; value, mark and chosen check stand at the same places in both forms */
-#define LDFS_JUNCTION_MARK 7  /* 1 byte: 0 open, 1 settled */
-#define LDFS_JUNCTION_CHOSEN 8 /* 1 byte: the number of the chosen check; 0 while open, and where the junction has no checks */
-#define LDFS_JUNCTION_CHECKS 9 /* of a plain junction: the field of its check 0, if it has any: 0 to 16 follow one another */
-#define LDFS_COUNTED_NUMBER 9  /* of a counted one: its number of checks, 1 byte, */
-#define LDFS_COUNTED_CHECKS 10 /* and the field of its check 0. In both forms that stands at 3 plus the length of the junction's field */
+#define LDFS_ENDING_COST 3u     /* 4 bytes */
+#define LDFS_ENDING_VALUE 7u    /* 4 bytes */
+#define LDFS_ENDING_MARK 11u    /* 1 byte: 0 open, 1 settled */
+#define LDFS_JUNCTION_TAG 3     /* a plain junction */
+#define LDFS_COUNTED_TAG 5      /* a counted one, which also writes its number of checks [S3.6] */
+#define LDFS_JUNCTION_VALUE 3u  /* 4 bytes; value, mark and chosen check stand at the same places in both forms */
+#define LDFS_JUNCTION_MARK 7u   /* 1 byte: 0 open, 1 settled */
+#define LDFS_JUNCTION_CHOSEN 8u /* 1 byte: the number of the chosen check; 0 while open, and where the junction has no checks */
+#define LDFS_JUNCTION_CHECKS 9u /* of a plain junction: the field of its check 0, if it has any: 0 to 16 follow one another */
+#define LDFS_COUNTED_NUMBER 9u  /* of a counted one: its number of checks, 1 byte, */
+#define LDFS_COUNTED_CHECKS 10u /* and the field of its check 0. In both forms that stands at 3 plus the length of the junction's field */
 #define LDFS_CHECK_TAG 4
-#define LDFS_CHECK_COST 3     /* 4 bytes */
-#define LDFS_CHECK_FINDINGS 7 /* 2 bytes each: (length - 4) / 2 of them */
+#define LDFS_CHECK_COST 3u      /* 4 bytes */
+#define LDFS_CHECK_FINDINGS 7u  /* 2 bytes each: (length - 4) / 2 of them */
 
 /*
  * What ldfs_solve returns: a refusal, 1 to 10, which is the number of the first question that is answered no [S4, S5]. The questions are

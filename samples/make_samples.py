@@ -170,6 +170,21 @@ def forty():
     return sheet(WORST, stages)
 
 
+def ladder(junctions):
+    """Junctions in pairs and an ending: each has two checks (9,000.00 to 10,000.00), one for each junction of the next pair.
+
+    The checks of the last pair lead to the ending, which costs 0.
+    """
+    draws = Draws(2048)
+    stages = []
+    for number in range(junctions):
+        following = number // 2 * 2 + 2
+        stages.append(junction([
+            (900_000 + draws.below(100_001), [min(finding, junctions)]) for finding in (following, following + 1)
+        ]))
+    return sheet(WORST, [*stages, ending(0)])
+
+
 SAMPLES = {
     "a.sheet": sheet_a(),
     "b-worst.sheet": sheet_b(WORST),
@@ -189,6 +204,8 @@ SAMPLES = {
     "stages-4096.sheet": many_stages(4096),
     "stages-4097.sheet": many_stages(4097),
     "deep.sheet": chain(3332),
+    # few bytes and many raises
+    "ladder.sheet": ladder(512),
     # one for each refusal that a sheet alone can get
     "refused-2.sheet": sheet_f()[:16],
     "refused-3.sheet": head(WORST, 0) + sheet_b()[8:],

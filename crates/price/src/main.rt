@@ -1,7 +1,7 @@
 // The program `price` (S10): prices a sheet from a file or from standard input.
 mod input; // input.rt: reading a sheet
 mod output; // output.rt: the listing, and what is said on standard error
-mod words; // words.rt: how the program is used, and why a sheet is refused
+mod words; // words.rt: how the program is used, its version, and why a sheet is refused
 
 ghost use mathlib.Core.Path.{_≡_};
 ghost use mathlib.Core.Bool.{true};
@@ -17,8 +17,10 @@ use model::MAX_BYTES;
 use model::MAX_STATES;
 use output::explain;
 use output::fail;
+use output::fail_unless;
 use output::write;
 use words::usage;
+use words::version;
 
 // Lists a sheet (S10.2, S10.3), and explains its refusal (S10.5). The buffer has room for every listing, so it is never too short.
 fn price(sheet: &mut [u8]) {
@@ -64,15 +66,15 @@ fn asks_usage(arg: &[u8]) -> bool
     check::same(arg, b"--help")
 }
 
-// Prints how the program is used (S10.8).
-fn print_usage() {
-    if !usage(STDOUT_FILENO) {
-        fail(b"standard output");
-    }
+// Is this the argument that asks for the version (S10.11)?
+fn asks_version(arg: &[u8]) -> bool
+    ensures { λ r. ⌜ (r ≡ true → now (arg .entry) ≡ ascii "--version") × (now (arg .entry) ≡ ascii "--version" → r ≡ true) ⌝ }
+{
+    check::same(arg, b"--version")
 }
 
-// What the only argument asks for: how the program is used, or the file of that name (S10.1, S10.8). A name that the buffer cannot hold is
-// longer than any that can be opened.
+// What the only argument asks for: how the program is used, its version, or the file of that name (S10.1, S10.8, S10.11). A name that the
+// buffer cannot hold is longer than any that can be opened.
 fn answer_argument() {
     let mut name = io::buffer();
     let n = os::arg(1, &mut name);
@@ -81,7 +83,9 @@ fn answer_argument() {
         return;
     }
     if asks_usage(&name[..n]) {
-        print_usage();
+        fail_unless(usage(STDOUT_FILENO));
+    } else if asks_version(&name[..n]) {
+        fail_unless(version(STDOUT_FILENO));
     } else {
         price_file(&name[..n]);
     }

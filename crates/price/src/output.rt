@@ -11,11 +11,16 @@ pub(crate) fn fail(what: &[u8]) {
     os::fail(what);
 }
 
-// Writes a listing on standard output, or says why it cannot (S10.2, S10.6).
-pub(crate) fn write(text: &[u8]) {
-    if !io::write_all(STDOUT_FILENO, text) {
+// Says why standard output could not be written, unless all of it was (S10.6).
+pub(crate) fn fail_unless(written: bool) {
+    if !written {
         fail(b"standard output");
     }
+}
+
+// Writes a listing on standard output, or says why it cannot (S10.2, S10.6).
+pub(crate) fn write(text: &[u8]) {
+    fail_unless(io::write_all(STDOUT_FILENO, text));
 }
 
 // Writes a number as a listing has it (S10.4). No number has more digits than the buffer has bytes (S10.10).

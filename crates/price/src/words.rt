@@ -1,4 +1,4 @@
-// How the program is used, and why a sheet is refused, in words.
+// How the program is used, its version, and why a sheet is refused, in words.
 
 // Writes how the program is used (S10.8), and answers whether all of it was written.
 pub(crate) fn usage(fd: i32) -> bool {
@@ -6,19 +6,34 @@ pub(crate) fn usage(fd: i32) -> bool {
         fd,
         b"usage: price [FILE]
        price --help
+       price --version
 
 Prices the fault sheet in FILE, or the one on standard input: the least cost for which the fault
 can be cleared however the findings fall, and the plan that costs it.
 
 Line one is the outcome (settled, over or none), the price in cents, passes and raises. Where it
 is settled, a line follows for each stage that the plan reaches: its number, its check or `end`,
-its value, and for a check `by` and the stage that the dearest of its findings leads to. `none`
-says that no plan clears the fault however the findings fall. A sheet that is refused gets `refused`
-and the number of the question that it fails, which is explained on standard error.
+its value, and for a check `by` and the stage that the dearest of its findings leads to. `over`
+says that every plan costs 1,000,000,000 cents or more, `none` that no plan clears the fault however
+the findings fall. A sheet that is refused gets `refused` and the number of the question that it
+fails, which is explained on standard error.
 
-docs/SPEC.md, S10, has it all.
+Every stage has a value, which never exceeds its least cost. A raise is one increase of a value, a
+pass one visit to the start. Nothing is printed before the last pass. Few sheets take a second, but
+one with 2,000 junctions and checks that cost nearly the same can take billions of raises: minutes.
+
+The exit status is always 0, whatever the outcome, and also where a file fails. A script asks by
+
+    price FILE | grep -q '^settled '
+
+The specification, SPEC.md, has it all in section S10. It is installed in share/doc/ldfs.
 ",
     )
+}
+
+// Writes the version (S10.11), which is that of the C header, and answers whether all of it was written.
+pub(crate) fn version(fd: i32) -> bool {
+    io::write_all(fd, b"price 2.3.1\n")
 }
 
 // Writes the id of the question with this number and what its "no" means (S4, S10.5), and ends the line. A number that no question has

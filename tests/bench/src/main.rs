@@ -3,7 +3,8 @@
 //! The sheet is copied afresh for every call, outside the measured time; the table and the result are cleared before each batch of
 //! calls, also outside, and not between its calls. Rounds of the three follow one another, and the quickest round of each counts.
 //! With a solver and a sheet as words it makes one call only, for a profiler. With `growth` it measures the library and the C copy on
-//! sheets of about 60,000 bytes that grow in one thing each, beside two lower bounds.
+//! sheets of about 60,000 bytes that grow in one thing each, beside two lower bounds; and then on ladders, once each, since the largest
+//! takes minutes.
 
 mod growth;
 mod plain;
@@ -45,7 +46,10 @@ fn run() {
     let words: Vec<String> = env::args().skip(1).collect();
     match &words[..] {
         [] => measure_all(),
-        [word] if word == "growth" => measure_growth(),
+        [word] if word == "growth" => {
+            measure_growth();
+            measure_ladders();
+        }
         [solver, sheet] => once(solver, sheet),
         _ => panic!("no words, `growth`, or a solver and a sheet, as the tables name them"),
     }
@@ -54,7 +58,7 @@ fn run() {
 /// One call, for a profiler.
 fn once(solver: &str, sheet: &str) {
     let (_, solve) = SOLVERS.into_iter().chain(BOUNDS).find(|(name, _)| *name == solver).expect("a solver's name");
-    let sample = sheets::all().into_iter().chain(growth::all()).find(|sample| sample.name == sheet).expect("a sheet's name");
+    let sample = sheets::all().into_iter().chain(growth::all()).chain(growth::ladders()).find(|sample| sample.name == sheet).expect("a sheet's name");
     batch(solve, &sample, 1);
 }
 
@@ -114,6 +118,30 @@ fn measure_growth() {
     }
 }
 
+/// Ladders: one call each of the library and of the C copy, which leave the same bytes, and the price is the one that `sweep` finds.
+/// The simple copy of the procedure would take too long.
+fn measure_ladders() {
+    println!("\n{:<34} {:>7} {:>10} {:>14} {:>12} {:>12}", "sheet", "bytes", "passes", "raises", "library", "plain C");
+    for sample in growth::ladders() {
+        let [library, c] = [SOLVERS[0], SOLVERS[2]].map(|(_, solve)| {
+            let began = Instant::now();
+            let answer = answer(solve, &sample);
+            (answer, began.elapsed().as_secs_f64())
+        });
+        assert!(library.0 == c.0, "{}: the library and the C copy differ", sample.name);
+        let [price, passes, raises] = numbers(&library.0 .1);
+        assert!(library.0 .0 == 100 && Some(price) == least_cost(&sample), "{}: the price is {price}", sample.name);
+        let (name, bytes) = (sample.name, sample.bytes.len());
+        println!("{name:<34} {bytes:>7} {passes:>10} {raises:>14} {:>10.2} s {:>10.2} s", library.1, c.1);
+    }
+}
+
+/// The start's least cost, by `sweep`.
+fn least_cost(sample: &Sample) -> Option<u64> {
+    let sheet = sweep::read(&sample.bytes).expect("a sheet");
+    sheet.least_costs()[0]
+}
+
 /// So many calls, each on a fresh copy of the sheet.
 fn batch(solve: Solve, sample: &Sample, copies: usize) -> Duration {
     let mut sheets: Vec<Vec<u8>> = (0..copies).map(|_| sample.bytes.clone()).collect();
@@ -136,21 +164,28 @@ fn copies_for(sample: &Sample) -> usize {
 fn same_answers(sample: &Sample) -> (u64, u64) {
     let (number, result) = agreed(sample);
     assert!(number == 100, "{}: returned {number}", sample.name);
-    let read = |at: usize| u64::from_le_bytes(result[at..at + 8].try_into().expect("eight bytes"));
-    (read(8), read(16))
+    let [_, passes, raises] = numbers(&result);
+    (passes, raises)
+}
+
+/// Price, passes and raises.
+fn numbers(result: &[u8; 24]) -> [u64; 3] {
+    [0, 8, 16].map(|at| u64::from_le_bytes(result[at..at + 8].try_into().expect("eight bytes")))
 }
 
 /// The number and the result on which all agree.
 fn agreed(sample: &Sample) -> (u32, [u8; 24]) {
-    let answer = |solve: Solve| {
-        let mut sheet = sample.bytes.clone();
-        let (mut table, mut result) = ([7; TABLE_BYTES], [7; 24]);
-        let number = solve(&mut sheet, &mut table, u64::MAX, &mut result);
-        (number, result, sheet, table)
-    };
-    let expected = answer(procedure::call);
+    let expected = answer(procedure::call, sample);
     for (name, solve) in SOLVERS {
-        assert!(answer(solve) == expected, "{}: {name} differs from procedure", sample.name);
+        assert!(answer(solve, sample) == expected, "{}: {name} differs from procedure", sample.name);
     }
     (expected.0, expected.1)
+}
+
+/// What a call returns and leaves: the number, the result, the sheet and the table.
+fn answer(solve: Solve, sample: &Sample) -> (u32, [u8; 24], Vec<u8>, [u8; TABLE_BYTES]) {
+    let mut sheet = sample.bytes.clone();
+    let (mut table, mut result) = ([7; TABLE_BYTES], [7; 24]);
+    let number = solve(&mut sheet, &mut table, u64::MAX, &mut result);
+    (number, result, sheet, table)
 }

@@ -183,12 +183,12 @@ pub fn fans(junctions: usize, endings: usize, checks: usize, findings: usize) ->
     bytes
 }
 
-/// The sheet with every value at so many hundredths of its least cost, all open. At 100 work settles in one pass, without a raise.
-pub fn values_at(mut bytes: Vec<u8>, hundredths: u64) -> Vec<u8> {
+/// The sheet with every value at so many per cent of its least cost, all open. At 100 work settles in one pass, without a raise.
+pub fn values_at(mut bytes: Vec<u8>, per_cent: u64) -> Vec<u8> {
     let sheet = sweep::read(&bytes).unwrap_or_else(|number| panic!("the sheet is refused {number}"));
     let mut at = 8;
     for cost in sheet.least_costs() {
-        let value = ((sweep::written(cost) * hundredths / 100) as u32).to_be_bytes();
+        let value = ((sweep::written(cost) * per_cent / 100) as u32).to_be_bytes();
         let place = if bytes[at] == 2 { at + 7 } else { at + 3 };
         bytes[place..place + 4].copy_from_slice(&value);
         at += 3 + usize::from(bytes[at + 2]);
