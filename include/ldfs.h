@@ -4,7 +4,8 @@
  * One function works a sheet, in place, within a budget. C99, and usable from C++.
  *
  * Platform   x86-64 Linux, called by the System V ABI, as every C compiler there calls. The archive has code for nothing else.
- * Linking    install.sh PREFIX puts libldfs.a, this header and ldfs.pc under PREFIX; then -lldfs, and no other library.
+ * Linking    install.sh PREFIX puts libldfs.a, this header and ldfs.pc under PREFIX; then -lldfs, and no other library but the C library,
+ *            of which memset is called.
  * Stack      a call needs up to LDFS_STACK_BYTES of stack, on the deepest sheets, beside what its thread needs otherwise.
  * Memory     the library allocates nothing and keeps nothing between calls: no memory, no files, no global state. All that it
  *            reads or writes is its own stack and the three slices that it is lent.

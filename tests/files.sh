@@ -7,7 +7,7 @@
 set -u
 here=$(cd "$(dirname "$0")/.." && pwd)
 host=$(realpath "$1")
-folder=$(mktemp -d)
+mkdir -p "$here/target" && folder=$(mktemp -d "$here/target/files.XXXXXX") || exit 2
 trap 'rm -rf "$folder"' EXIT
 cd "$folder" || exit 2
 umask 022
@@ -74,11 +74,14 @@ fresh && mkdir other && holds "a folder is not replaced" says "host: other: not 
 mkfifo pipe && holds "nor is a pipe" says "host: pipe: not a plain file" -o pipe a.sheet
 holds "and no file is left over" only a.sheet other pipe
 holds "a folder that is missing is said" says "host: none/a.sheet: No such file or directory" -o none/a.sheet a.sheet
-if [ "$(id -u)" -eq 0 ]; then
-  fresh && chown 1234:5678 a.sheet && "$host" a.sheet >/dev/null
+
+# only root may give a file away, and root may write every file: each of these two is tried by those who can
+if fresh && chown 1234:5678 a.sheet 2>/dev/null; then
+  "$host" a.sheet >/dev/null
   holds "a file keeps its owner and its group" [ "$(stat -c %u:%g a.sheet)" = 1234:5678 ]
-else
-  fresh && chmod 444 a.sheet && holds "a file that may not be written stays" says "host: a.sheet: Permission denied" a.sheet
+fi
+if fresh && chmod 444 a.sheet && [ ! -w a.sheet ]; then
+  holds "a file that may not be written stays" says "host: a.sheet: Permission denied" a.sheet
   holds "and is blank" blank a.sheet
 fi
 
