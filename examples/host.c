@@ -5,10 +5,10 @@
  *
  * Each call may make RAISES raises (10,000 unless said), and the sheet is saved after each: to SHEET itself, or to FILE, and then SHEET
  * stays as it is. A worked sheet is again a sheet, so to carry the work on, run the host again on the file that it saved. After CALLS
- * calls it ends, settled or not. Exit status: 0 where the start is settled, also where it has no complete plan, 2 where it is still open, 1
- * where the sheet is refused or a file fails.
+ * calls, 1 or more, it ends, settled or not. Exit status: 0 where the start is settled, also where it has no complete plan, 2 where it is
+ * still open, 1 where the sheet is refused or a file fails.
  *
- * C99 with functions of POSIX for the file, and C++11. Built against an installed library (install.sh PREFIX):
+ * C99 with functions of POSIX and Linux for the file, and C++11. Built against an installed library (install.sh PREFIX):
  *
  *     cc -std=c99 host.c -IPREFIX/include -LPREFIX/lib -lldfs -o host
  */
@@ -24,9 +24,13 @@
 #include <stdlib.h>
 #include <string.h>
 #include <sys/stat.h>
+#include <sys/xattr.h>
 #include <unistd.h>
 
-enum { DONE = 0, FAILED = 1, STILL_OPEN = 2, LINKS_MOST = 40 };
+enum { DONE = 0, FAILED = 1, STILL_OPEN = 2 };
+
+/* How often a link is followed, and a name for a new file tried. */
+enum { LINKS_MOST = 40, NUMBERS_MOST = 100 };
 
 /* What the host lends to every call. One byte more than the longest sheet, so that a longer file is refused and not cut. */
 static uint8_t sheet[LDFS_SHEET_MOST + 1];
@@ -93,7 +97,7 @@ static int complaint(const char *name, const char *why)
 }
 
 /* The name of the file that a name stands for: where it is that of a symbolic link, the name that the link leads to, and so on. The file
-   itself need not be there yet. */
+   itself need not be there yet. Links under /proc, as of /dev/stdout, stand for open files, which a saved sheet must not replace. */
 static int follow(const char *name, char *real, size_t room)
 {
     char link[PATH_MAX];
@@ -101,9 +105,11 @@ static int follow(const char *name, char *real, size_t room)
         return complaint(name, "the name is too long");
     strcpy(real, name);
     for (int links = 0; links < LINKS_MOST; links++) {
+        if (strncmp(real, "/proc/", 6) == 0)
+            return complaint(name, "not a plain file");
         ssize_t length = readlink(real, link, sizeof link - 1);
         if (length < 0)
-            return errno == EINVAL || errno == ENOENT || failure(real); /* it is no link, or nothing yet */
+            return errno == EINVAL || errno == ENOENT || failure(name); /* it is no link, or nothing yet */
         link[length] = '\0';
         char *slash = strrchr(real, '/');
         char *from = link[0] == '/' || slash == NULL ? real : slash + 1; /* a link leads on from its own folder */
@@ -114,18 +120,38 @@ static int follow(const char *name, char *real, size_t room)
     return complaint(name, "too many links");
 }
 
-/* The new file gets the mode, the owner and the group of the one whose place it takes; where there is none, the mode that any new file of
-   this process has. Access lists and other names (hard links) of the old file are not carried over. */
-static int take_after(int file, const struct stat *old)
+/* Opens a new file beside another one, under a name that nothing else has: NAME.tmp., the number of the process, and one more number. */
+static int open_beside(const char *name, mode_t mode, char *temporary, size_t room)
+{
+    for (int number = 0; number < NUMBERS_MOST; number++) {
+        snprintf(temporary, room, "%s.tmp.%ld-%d", name, (long)getpid(), number);
+        int file = open(temporary, O_WRONLY | O_CREAT | O_EXCL, mode);
+        if (file >= 0 || errno != EEXIST)
+            return file;
+    }
+    return -1;
+}
+
+/* The new file gets the access list of the old one, or none where that has none. Without it the mode would let others in. */
+static int keep_access_list(int file, const char *old)
+{
+    static const char attribute[] = "system.posix_acl_access";
+    char list[4096];
+    ssize_t length = getxattr(old, attribute, list, sizeof list);
+    if (length >= 0)
+        return fsetxattr(file, attribute, list, (size_t)length, 0) == 0;
+    return (errno == ENODATA || errno == ENOTSUP) && (fremovexattr(file, attribute) == 0 || errno == ENODATA || errno == ENOTSUP);
+}
+
+/* The new file gets the owner, the group, the access list and the mode of the one whose place it takes. */
+static int keep_rights(int file, const char *name, const struct stat *old)
 {
     struct stat own;
-    if (old == NULL) {
-        mode_t mask = umask(0);
-        umask(mask);
-        return fchmod(file, 0666 & ~mask) == 0;
-    }
-    return fstat(file, &own) == 0 && ((own.st_uid == old->st_uid && own.st_gid == old->st_gid) || fchown(file, old->st_uid, old->st_gid) == 0)
-        && fchmod(file, old->st_mode & 07777) == 0;
+    if (fstat(file, &own) != 0)
+        return 0;
+    if ((own.st_uid != old->st_uid || own.st_gid != old->st_gid) && fchown(file, old->st_uid, old->st_gid) != 0)
+        return 0;
+    return keep_access_list(file, name) && fchmod(file, old->st_mode & 07777) == 0;
 }
 
 /* Writes the sheet and waits until the disk has it. */
@@ -140,7 +166,8 @@ static int write_all(int file, size_t length)
     return fsync(file) == 0;
 }
 
-/* A renamed file is sure to have its new name after the machine ends only once its folder is on the disk too. */
+/* A renamed file is sure to have its new name after the machine ends only once its folder is on the disk too. Some folders cannot be
+   synced, or not by this process; the file itself is whole either way. */
 static int sync_folder(char *name)
 {
     char *slash = strrchr(name, '/');
@@ -148,18 +175,19 @@ static int sync_folder(char *name)
         *slash = '\0';
     int folder = open(slash == NULL ? "." : slash == name ? "/" : name, O_RDONLY);
     if (folder < 0)
-        return 0;
-    int good = fsync(folder) == 0 || errno == EINVAL; /* some file systems cannot, and need not */
+        return errno == EACCES;
+    int good = fsync(folder) == 0 || errno == EINVAL;
     close(folder);
     return good;
 }
 
-/* The sheet goes to a new file beside the old one, with a name that nothing else has, and takes the old one's place in one step (rename)
-   once the disk has it: whenever the host or the machine ends, the file named holds the sheet of before or this one, and never a part of
-   it. Where the host is ended in between, that new file may be left, SHEET.tmp. and six letters. */
+/* The sheet goes to a new file beside the old one, which takes its place in one step (rename) once the disk has it: whenever the host or
+   the machine ends, the file named holds the sheet of before or this one, and never a part of it. Where the owner, the group, the access
+   list or the mode cannot be kept, nothing is saved. Other attributes and other names (hard links) of the old file are not carried over.
+   Where the host is ended in between, the new file may be left, SHEET.tmp. and two numbers: it may be deleted. */
 static int save(const char *name, size_t length)
 {
-    char real[PATH_MAX], temporary[PATH_MAX + 16];
+    char real[PATH_MAX], temporary[PATH_MAX + 64];
     struct stat old;
     if (!follow(name, real, sizeof real))
         return 0;
@@ -170,11 +198,11 @@ static int save(const char *name, size_t length)
         return complaint(name, "not a plain file");
     if (there && access(real, W_OK) != 0)
         return failure(name);
-    snprintf(temporary, sizeof temporary, "%s.tmp.XXXXXX", real);
-    int file = mkstemp(temporary);
+    int file = open_beside(real, there ? 0600 : 0666, temporary, sizeof temporary);
     if (file < 0)
         return failure(name);
-    int good = (take_after(file, there ? &old : NULL) && write_all(file, length)) || failure(name);
+    int good = !there || keep_rights(file, real, &old) || complaint(name, "its owner, group, access list and mode cannot be kept");
+    good = good && (write_all(file, length) || failure(name));
     if (close(file) != 0 && good)
         good = failure(name);
     good = good && (rename(temporary, real) == 0 || failure(name));
@@ -256,8 +284,14 @@ static uint32_t work(size_t length, uint64_t budget)
                : number == LDFS_OVER  ? "over: every plan costs at least"
                                       : "stopped: every plan costs at least",
                price, passes, raises);
-    fflush(stdout);
     return number;
+}
+
+/* All that was printed has gone out, or the host says why not. */
+static int printed(void)
+{
+    errno = 0;
+    return (fflush(stdout) == 0 && !ferror(stdout)) || failure("standard output");
 }
 
 static int usage(void)
@@ -283,7 +317,7 @@ int main(int count, char **words)
         int more = i + 1 < count;
         if (strcmp(words[i], "--budget") == 0 && more && number_of(words[i + 1], &budget))
             i++;
-        else if (strcmp(words[i], "--calls") == 0 && more && number_of(words[i + 1], &calls))
+        else if (strcmp(words[i], "--calls") == 0 && more && number_of(words[i + 1], &calls) && calls > 0)
             i++;
         else if (strcmp(words[i], "-o") == 0 && more)
             to = words[++i];
@@ -303,10 +337,13 @@ int main(int count, char **words)
     for (uint64_t i = 0; number == LDFS_STOPPED && i < calls; i++) {
         number = work(length, budget);
         /* A refused sheet is as it was, and nothing is saved. */
-        if (number < LDFS_SETTLED || !save(to, length))
+        int saved = number >= LDFS_SETTLED && save(to, length);
+        if (!printed() || !saved)
             return FAILED;
     }
     if (number == LDFS_SETTLED)
         print_plan();
+    if (!printed())
+        return FAILED;
     return number == LDFS_STOPPED ? STILL_OPEN : DONE;
 }

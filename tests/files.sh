@@ -73,6 +73,8 @@ rm -f spare && holds "no file is left over" only a.sheet a.sheet.tmp
 fresh && mkdir other && holds "a folder is not replaced" says "host: other: not a plain file" -o other a.sheet
 mkfifo pipe && holds "nor is a pipe" says "host: pipe: not a plain file" -o pipe a.sheet
 holds "and no file is left over" only a.sheet other pipe
+fresh && echo text >log && "$host" -o /dev/stdout a.sheet >>log 2>said
+holds "nor is an open file, by a link of the system" [ "$(head -n 1 log)|$(cat said)" = "text|host: /dev/stdout: not a plain file" ]
 holds "a folder that is missing is said" says "host: none/a.sheet: No such file or directory" -o none/a.sheet a.sheet
 
 # only root may give a file away, and root may write every file: each of these two is tried by those who can
@@ -85,12 +87,47 @@ if fresh && chmod 444 a.sheet && [ ! -w a.sheet ]; then
   holds "and is blank" blank a.sheet
 fi
 
+# access_list set|default|same|none NAME: gives a file this access list, or a folder's new files; or asks whether the file has it, or has none. By it
+# the owner and user 1234 may read and write, and the group and others may not
+access_list() {
+  python3 - "$@" <<'END'
+import os, struct, sys
+entries = [(1, 6, 2**32 - 1), (2, 6, 1234), (4, 0, 2**32 - 1), (16, 6, 2**32 - 1), (32, 0, 2**32 - 1)]
+content = struct.pack("<I", 2) + b"".join(struct.pack("<HHI", *entry) for entry in entries)
+what, name = sys.argv[1:]
+access = "system.posix_acl_access"
+try:
+    if what in ("set", "default"):
+        os.setxattr(name, access if what == "set" else "system.posix_acl_default", content)
+    elif what == "same":
+        sys.exit(0 if os.getxattr(name, access) == content else 1)
+    else:
+        sys.exit(1 if access in os.listxattr(name) else 0)
+except OSError:
+    sys.exit(1)
+END
+}
+
+# where the file system has such lists
+if fresh && access_list set a.sheet; then
+  "$host" a.sheet >/dev/null
+  holds "a file keeps its access list" access_list same a.sheet
+  fresh && mkdir store && mv a.sheet store && access_list default store && "$host" store/a.sheet >/dev/null
+  holds "a file without one gets none" access_list none store/a.sheet
+  holds "and keeps its mode" [ "$(stat -c %a store/a.sheet)" = 644 ]
+fi
+
+fresh && "$host" a.sheet >/dev/full 2>said
+holds "output that cannot be written ends the host" [ $? -eq 1 ]
+holds "it is said too" [ "$(cat said)" = "host: standard output: No space left on device" ]
+holds "and the sheet is saved" settled a.sheet
+
 cc -std=c99 -Wall -Wextra -Werror -shared -fPIC "$here/tests/c/recorded.c" -o "$folder/.recorded.so" || exit 1
 fresh && RECORD=record LD_PRELOAD=$folder/.recorded.so "$host" a.sheet >/dev/null
 holds "the file is synced, then renamed, then its folder is synced" [ "$(cat record)" = $'sync of the file\nrename\nsync of the folder' ]
-fresh && SYNC_FAILS=1 LD_PRELOAD=$folder/.recorded.so "$host" a.sheet >said 2>&1
+fresh && SYNC_FAILS=1 LD_PRELOAD=$folder/.recorded.so "$host" a.sheet 2>said >/dev/null
 holds "a sync that fails ends the host" [ $? -eq 1 ]
-holds "it is said" [ "$(tail -n 1 said)" = "host: a.sheet: Input/output error" ]
+holds "it is said" [ "$(cat said)" = "host: a.sheet: Input/output error" ]
 holds "the sheet stays as it was" blank a.sheet
 rm -f said && holds "and no file is left over" [ "$(ls)" = a.sheet ]
 

@@ -8,25 +8,36 @@ pub(crate) fn usage(fd: i32) -> bool {
        price --help
        price --version
 
-Prices the fault sheet in FILE, or the one on standard input: the least cost for which the fault
-can be cleared however the findings fall, and the plan that costs it.
+Prices the fault sheet in FILE, or the one on standard input: the least cost for
+which the fault can be cleared, however the findings fall (a worst sheet) or
+with all of them done (a whole sheet), and the plan that costs it. FILE stays as
+it is. Any other argument is a file's name, also `-`.
 
-Line one is the outcome (settled, over or none), the price in cents, passes and raises. Where it
-is settled, a line follows for each stage that the plan reaches: its number, its check or `end`,
-its value, and for a check `by` and the stage that the dearest of its findings leads to. `over`
-says that every plan costs 1,000,000,000 cents or more, `none` that no plan clears the fault however
-the findings fall. A sheet that is refused gets `refused` and the number of the question that it
-fails, which is explained on standard error.
+Line one is the outcome (settled, over or none), the price in cents, passes and
+raises. Where it is settled, a line follows for each stage that the plan
+reaches: its number, its check or `end`, its value, and for a check `by` and the
+stage that the dearest of its findings leads to. `over` says that every plan
+costs 1,000,000,000 cents or more, `none` that every plan comes to a junction
+without checks. A sheet that is refused gets `refused` and the number of the
+question that it fails, which is explained on standard error.
 
-Every stage has a value, which never exceeds its least cost. A raise is one increase of a value, a
-pass one visit to the start. Nothing is printed before the last pass. Few sheets take a second, but
-one with 2,000 junctions and checks that cost nearly the same can take billions of raises: minutes.
+Every stage has a value, which never exceeds its least cost. A raise is one
+increase of a value, a pass one visit to the start. Nothing is printed before
+the last pass. Few sheets take a second, but one with 2,000 junctions and checks
+that cost nearly the same can take billions of raises: minutes.
 
-The exit status is always 0, whatever the outcome, and also where a file fails. A script asks by
+The exit status is always 0, unless a signal ends the program. A script asks
 
     price FILE | grep -q '^settled '
 
-The specification, SPEC.md, has it all in section S10. It is installed in share/doc/ldfs.
+or, with pipefail, where the pipe that grep closes would count as a failure,
+
+    [[ $(price FILE) == settled\\ * ]]
+
+What cannot be read or written is said on standard error.
+
+The specification, SPEC.md, has it all in section S10. It is installed in
+share/doc/ldfs.
 ",
     )
 }
