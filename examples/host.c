@@ -30,7 +30,7 @@
 enum { DONE = 0, FAILED = 1, STILL_OPEN = 2 };
 
 /* How often a link is followed, and a name for a new file tried. */
-enum { LINKS_MOST = 40, NUMBERS_MOST = 100 };
+enum { LINKS_MOST = 40, NUMBERS_MOST = 1000 };
 
 /* What the host lends to every call. One byte more than the longest sheet, so that a longer file is refused and not cut. */
 static uint8_t sheet[LDFS_SHEET_MOST + 1];
@@ -97,19 +97,25 @@ static int complaint(const char *name, const char *why)
 }
 
 /* The name of the file that a name stands for: where it is that of a symbolic link, the name that the link leads to, and so on. The file
-   itself need not be there yet. Links under /proc, as of /dev/stdout, stand for open files, which a saved sheet must not replace. */
+   itself need not be there yet. Links of the system under /proc, as of /dev/stdout, stand for open files, which must not be replaced. */
 static int follow(const char *name, char *real, size_t room)
 {
     char link[PATH_MAX];
+    struct stat system, at;
+    int known = lstat("/proc/self", &system) == 0;
     if (strlen(name) >= room)
         return complaint(name, "the name is too long");
     strcpy(real, name);
-    for (int links = 0; links < LINKS_MOST; links++) {
-        if (strncmp(real, "/proc/", 6) == 0)
+    for (int links = 0; links <= LINKS_MOST; links++) {
+        if (lstat(real, &at) != 0)
+            return errno == ENOENT || failure(name);
+        if (!S_ISLNK(at.st_mode))
+            return 1;
+        if (known && at.st_dev == system.st_dev)
             return complaint(name, "not a plain file");
         ssize_t length = readlink(real, link, sizeof link - 1);
         if (length < 0)
-            return errno == EINVAL || errno == ENOENT || failure(name); /* it is no link, or nothing yet */
+            return failure(name);
         link[length] = '\0';
         char *slash = strrchr(real, '/');
         char *from = link[0] == '/' || slash == NULL ? real : slash + 1; /* a link leads on from its own folder */
@@ -120,19 +126,38 @@ static int follow(const char *name, char *real, size_t room)
     return complaint(name, "too many links");
 }
 
-/* Opens a new file beside another one, under a name that nothing else has: NAME.tmp., the number of the process, and one more number. */
+/* Finds the file to save to, before any work: it is a plain one that this process may write, or is not there yet. */
+static int find(const char *name, char *real, size_t room)
+{
+    struct stat old;
+    if (!follow(name, real, room))
+        return 0;
+    if (stat(real, &old) != 0)
+        return errno == ENOENT || failure(name);
+    if (!S_ISREG(old.st_mode))
+        return complaint(name, "not a plain file");
+    int file = open(name, O_WRONLY | O_NONBLOCK | O_NOCTTY | O_CLOEXEC);
+    if (file < 0)
+        return failure(name);
+    close(file);
+    return 1;
+}
+
+/* Opens a new file in the folder of another one, under a name that nothing else has: .host.tmp., the number of the process and one more. */
 static int open_beside(const char *name, mode_t mode, char *temporary, size_t room)
 {
+    const char *slash = strrchr(name, '/');
+    int folder = slash == NULL ? 0 : (int)(slash + 1 - name);
     for (int number = 0; number < NUMBERS_MOST; number++) {
-        snprintf(temporary, room, "%s.tmp.%ld-%d", name, (long)getpid(), number);
-        int file = open(temporary, O_WRONLY | O_CREAT | O_EXCL, mode);
+        snprintf(temporary, room, "%.*s.host.tmp.%ld-%d", folder, name, (long)getpid(), number);
+        int file = open(temporary, O_WRONLY | O_CREAT | O_EXCL | O_CLOEXEC, mode);
         if (file >= 0 || errno != EEXIST)
             return file;
     }
     return -1;
 }
 
-/* The new file gets the access list of the old one, or none where that has none. Without it the mode would let others in. */
+/* The new file gets the POSIX access list of the old one, or none where that has none. Without it the mode might let others in. */
 static int keep_access_list(int file, const char *old)
 {
     static const char attribute[] = "system.posix_acl_access";
@@ -154,29 +179,40 @@ static int keep_rights(int file, const char *name, const struct stat *old)
     return keep_access_list(file, name) && fchmod(file, old->st_mode & 07777) == 0;
 }
 
-/* Writes the sheet and waits until the disk has it. */
+/* Waits until the disk has the file. */
+static int sync_file(int file)
+{
+    int failed;
+    do
+        failed = fsync(file);
+    while (failed != 0 && errno == EINTR);
+    return failed == 0;
+}
+
+/* Writes the sheet, to the disk. */
 static int write_all(int file, size_t length)
 {
     for (size_t done = 0; done < length;) {
+        errno = EIO;
         ssize_t more = write(file, sheet + done, length - done);
         if (more == 0 || (more < 0 && errno != EINTR))
             return 0;
         done += more < 0 ? 0 : (size_t)more;
     }
-    return fsync(file) == 0;
+    return sync_file(file);
 }
 
 /* A renamed file is sure to have its new name after the machine ends only once its folder is on the disk too. Some folders cannot be
    synced, or not by this process; the file itself is whole either way. */
-static int sync_folder(char *name)
+static int sync_folder(const char *name)
 {
-    char *slash = strrchr(name, '/');
-    if (slash != NULL && slash != name)
-        *slash = '\0';
-    int folder = open(slash == NULL ? "." : slash == name ? "/" : name, O_RDONLY);
+    char path[PATH_MAX];
+    const char *slash = strrchr(name, '/');
+    snprintf(path, sizeof path, "%.*s", slash == NULL ? 1 : (int)(slash + 1 - name), slash == NULL ? "." : name);
+    int folder = open(path, O_RDONLY | O_CLOEXEC);
     if (folder < 0)
         return errno == EACCES;
-    int good = fsync(folder) == 0 || errno == EINVAL;
+    int good = sync_file(folder) || errno == EINVAL;
     close(folder);
     return good;
 }
@@ -184,31 +220,25 @@ static int sync_folder(char *name)
 /* The sheet goes to a new file beside the old one, which takes its place in one step (rename) once the disk has it: whenever the host or
    the machine ends, the file named holds the sheet of before or this one, and never a part of it. Where the owner, the group, the access
    list or the mode cannot be kept, nothing is saved. Other attributes and other names (hard links) of the old file are not carried over.
-   Where the host is ended in between, the new file may be left, SHEET.tmp. and two numbers: it may be deleted. */
+   Where the host is ended in between, the new file may be left, .host.tmp. and two numbers: it may be deleted. Two hosts that work on one
+   file at once would overwrite each other's work: see that there is one. */
 static int save(const char *name, size_t length)
 {
-    char real[PATH_MAX], temporary[PATH_MAX + 64];
+    char temporary[PATH_MAX + 64];
     struct stat old;
-    if (!follow(name, real, sizeof real))
-        return 0;
-    int there = stat(real, &old) == 0;
+    int there = stat(name, &old) == 0;
     if (!there && errno != ENOENT)
         return failure(name);
-    if (there && !S_ISREG(old.st_mode))
-        return complaint(name, "not a plain file");
-    if (there && access(real, W_OK) != 0)
-        return failure(name);
-    int file = open_beside(real, there ? 0600 : 0666, temporary, sizeof temporary);
+    int file = open_beside(name, there ? 0600 : 0666, temporary, sizeof temporary);
     if (file < 0)
         return failure(name);
-    int good = !there || keep_rights(file, real, &old) || complaint(name, "its owner, group, access list and mode cannot be kept");
+    int good = !there || keep_rights(file, name, &old) || complaint(name, "its owner, group, access list and mode cannot be kept");
     good = good && (write_all(file, length) || failure(name));
-    if (close(file) != 0 && good)
-        good = failure(name);
-    good = good && (rename(temporary, real) == 0 || failure(name));
+    close(file); /* the disk has it all by now */
+    good = good && (rename(temporary, name) == 0 || failure(name));
     if (!good)
         unlink(temporary);
-    return good && (sync_folder(real) || failure(name));
+    return good && (sync_folder(name) || failure(name));
 }
 
 /* The end of a field, by its own length, which is where the next field begins. */
@@ -331,13 +361,14 @@ int main(int count, char **words)
         return usage();
     if (to == NULL)
         to = from;
-    if (!load(from, &length))
+    char place[PATH_MAX];
+    if (!load(from, &length) || !find(to, place, sizeof place))
         return FAILED;
     uint32_t number = LDFS_STOPPED;
     for (uint64_t i = 0; number == LDFS_STOPPED && i < calls; i++) {
         number = work(length, budget);
         /* A refused sheet is as it was, and nothing is saved. */
-        int saved = number >= LDFS_SETTLED && save(to, length);
+        int saved = number >= LDFS_SETTLED && save(place, length);
         if (!printed() || !saved)
             return FAILED;
     }

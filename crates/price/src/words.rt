@@ -30,7 +30,7 @@ The exit status is always 0, unless a signal ends the program. A script asks
 
     price FILE | grep -q '^settled '
 
-or, with pipefail, where the pipe that grep closes would count as a failure,
+or, with pipefail, where the pipe that grep closes may count as a failure,
 
     [[ $(price FILE) == settled\\ * ]]
 
