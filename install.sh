@@ -3,8 +3,8 @@
 #
 #     ./install.sh PREFIX
 #
-# puts PREFIX/lib/libldfs.a, PREFIX/include/ldfs.h, PREFIX/lib/pkgconfig/ldfs.pc and PREFIX/bin/price there, and beside them PREFIX/share/doc/ldfs with
-# HOST.md, SPEC.md, host.c, which is a host to start from, and the sample sheets. A host is then built with
+# puts PREFIX/lib/libldfs.a, PREFIX/include/ldfs.h, PREFIX/lib/pkgconfig/ldfs.pc and PREFIX/bin/price there, and beside them PREFIX/share/doc/ldfs
+# with HOST.md, SPEC.md, host.c, which is a host to start from, and the sample sheets. A host is then built with
 #
 #     cc host.c -IPREFIX/include -LPREFIX/lib -lldfs
 #

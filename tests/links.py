@@ -3,8 +3,9 @@
 
     tests/links.py FOLDER..
 
-Looks at every *.md file of the folders, but for those under a folder `target`: a link [words](place) must lead to a file that is there, and, where
-it names a heading behind #, to a heading of that file. Links to the network are not followed. The exit status is 0 only where all lead somewhere.
+Looks at every *.md file of the folders, but for those under a folder `target`: a link [words](place) must lead to a file that is there,
+and, where it names a heading behind #, to a heading of that file. Links to the network are not followed. The exit status is 0 only where
+all lead somewhere.
 """
 
 import re

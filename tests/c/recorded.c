@@ -1,6 +1,6 @@
 /*
- * Loaded before the C library (LD_PRELOAD), it records the order in which a program syncs and renames, and can let a sync fail: each call of
- * fsync and rename adds a line to the file that RECORD names, and where SYNC_FAILS is set, fsync of a plain file fails with EIO.
+ * Loaded before the C library (LD_PRELOAD), it records the order in which a program syncs and renames, and can let a sync fail: each call
+ * of fsync and rename adds a line to the file that RECORD names, and where SYNC_FAILS is set, fsync of a plain file fails with EIO.
  */
 #define _GNU_SOURCE
 

@@ -17,20 +17,23 @@ pub record Wrote (before after : List ℕ) (at next : ℕ) (text : List ℕ) : T
   pub bytes : after ≡ placed at text before
   pub behind : next ≡ at + length text
 
--- The most digits of a number of 64 bits; and with so many for every number the most bytes of the parts of a line: a refusal's line; behind an outcome's word three numbers; a
--- stage's ` check ` with a number, or ` end`; behind its value ` by ` with a number, and the line's end.
+-- the most digits of a number of 64 bits; what follows is the most bytes of parts of a line, with so many digits for every number
 abbrev pub maxDigits : ℕ
 maxDigits = 20
 
+-- a refusal's line
 abbrev pub maxRefused : ℕ
 maxRefused = 29
 
+-- behind an outcome's word: three numbers, and the line's end
 abbrev pub maxFigures : ℕ
 maxFigures = 63
 
+-- ` check ` with a number, or ` end`
 abbrev pub maxChoice : ℕ
 maxChoice = 27
 
+-- behind a stage's value: ` by ` with a number, and the line's end
 abbrev pub maxLineEnd : ℕ
 maxLineEnd = 25
 

@@ -58,7 +58,8 @@ fn run() {
 /// One call, for a profiler.
 fn once(solver: &str, sheet: &str) {
     let (_, solve) = SOLVERS.into_iter().chain(BOUNDS).find(|(name, _)| *name == solver).expect("a solver's name");
-    let sample = sheets::all().into_iter().chain(growth::all()).chain(growth::ladders()).find(|sample| sample.name == sheet).expect("a sheet's name");
+    let mut samples = sheets::all().into_iter().chain(growth::all()).chain(growth::ladders());
+    let sample = samples.find(|sample| sample.name == sheet).expect("a sheet's name");
     batch(solve, &sample, 1);
 }
 
