@@ -73,8 +73,9 @@ rm -f spare && holds "no file is left over" only a.sheet a.sheet.tmp
 fresh && mkdir other && holds "a folder is not replaced" says "host: other: not a plain file" -o other a.sheet
 mkfifo pipe && holds "nor is a pipe" says "host: pipe: not a plain file" -o pipe a.sheet
 holds "and no file is left over" only a.sheet other pipe
-for name in /dev/stdout /dev/fd/1 //proc/self/fd/1; do
-  fresh && echo text >log && "$host" -o $name a.sheet >>log 2>said
+# by a link of its own, as /dev/stdout is one: a host that went wrong, run as root, would replace that
+for name in stdout /dev/fd/1 //proc/self/fd/1; do
+  fresh && ln -s /proc/self/fd/1 stdout && echo text >log && "$host" -o $name a.sheet >>log 2>said
   holds "nor is an open file, by $name" [ "$(cat log said)" = $'text\nhost: '"$name: not a plain file" ]
 done
 holds "a folder that is missing is said" says "host: none/a.sheet: No such file or directory" -o none/a.sheet a.sheet
