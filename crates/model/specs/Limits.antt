@@ -1,4 +1,4 @@
--- The limits of a sheet, one definition each. `src/lib.rt` has the same numbers for the code, and the proofs hold the two to each other.
+-- The limits of a sheet, one definition each. `src/lib.rt` has the same numbers for the code, and where the two differ, a proof fails.
 use Prim.Native.Nat.{ℕ, suc, _^_}
 
 -- S4.1, S4.3: the most stages that a sheet has, and the fewest entries of its index table

@@ -1,5 +1,5 @@
 // The numbers of the format (S3.2): tags, lengths of content, where things stand in a field, sizes of fields. `specs/Format.antt` has the
-// same numbers as definitions, and the proofs hold the two to each other.
+// same numbers as definitions, and where the two differ, a proof fails.
 
 // Tags; a junction's is that of its form, plain or counted.
 pub const HEAD_TAG: u8 = 1;

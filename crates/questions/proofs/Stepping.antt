@@ -92,7 +92,7 @@ unfolding also all
 also-yes true = refl
 also-yes false = refl
 
--- t need not be held to n where u is, which is t + d or more
+-- t need not be compared with n where u is, which is t + d or more
 skipped : (d t n u : ℕ) (more : Unit {0} → Bool) →
     also (all (true ∷ ltb t n ∷ [])) (λ _. also (all (leb (t + d) u ∷ ltb u n ∷ [])) more)
     ≡ also (all (leb (t + d) u ∷ ltb u n ∷ [])) more
@@ -116,7 +116,7 @@ module _ (ts : List ℕ) (j t : ℕ) (lt : j < length ts) (at : t ≡ getD ts j 
     unfolding ascending also all
     too-low a = rw (rest, lt-leb least t a)
 
-    -- the last of them is held to n, and one before it need not be: another, which is as large, is
+    -- the last of them is compared with n, and one before it need not be: another, which is as large, is
     pub last-below : least ≤ t → j + 1 ≡ length ts → ltb t n ≡ ascending d least n (drop j ts)
     unfolding ascending
     last-below a e = rw (rest, le-leb least t a, drop-of-length-le ts {i = j + 1} (omega arith)) (sym (also-yes (ltb t n)))

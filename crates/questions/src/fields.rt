@@ -1,5 +1,5 @@
-// Question 4 (S4.4): are the fields in place? The index table is filled on the way, and the numbers of actions that decisions write are
-// held to those that follow, for question 10 (S4.10).
+// Question 4 (S4.4): are the fields in place? The index table is filled on the way, and the number of actions that a decision writes is
+// compared with those that follow, for question 10 (S4.10).
 ghost use mathlib.Core.Path.{_≡_};
 ghost use mathlib.Core.Bool.{true};
 ghost use mathlib.Core.List.{_++_};

@@ -98,7 +98,7 @@ fn in_range(sheet: &[u8], table: &[u32], state: usize) -> bool
 }
 
 // Of the successors of the action at `at`, is the first `low` or more, each of the others `step` or more above the one before it, and is
-// each below `n`? Where they ascend, the last of them alone is held to `n`.
+// each below `n`? Where they ascend, only the last of them is compared with `n`.
 fn ascending_at(sheet: &[u8], at: usize, step: usize, low: usize, n: usize) -> bool
     requires { ⌜ actionFits (drop at (now sheet)) ≡ true ⌝ }
     requires { ⌜ step ≤ 1 ⌝ }
