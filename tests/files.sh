@@ -22,7 +22,7 @@ holds() {
 
 # fresh: the folder holds sheet A alone, as a.sheet
 fresh() {
-  rm -rf ./* && cp "$here/samples/a.sheet" a.sheet && chmod 644 a.sheet
+  find . -mindepth 1 -delete && cp "$here/samples/a.sheet" a.sheet && chmod 644 a.sheet
 }
 
 # settled FILE: work was done there, and is not left to do; blank FILE: nothing was done there
@@ -41,7 +41,7 @@ says() {
   [ $? -eq 1 ] && [ "$said" = "$message" ]
 }
 
-# only NAME..: the folder holds these names and no other
+# only NAME..: the folder holds these names and no other, hidden ones counted
 only() {
   [ "$(ls -A | sort)" = "$(printf '%s\n' "$@" | sort)" ]
 }
@@ -58,7 +58,7 @@ holds "the sheet that was read stays where another file is named" blank a.sheet
 fresh && mkdir store && mv a.sheet store/real.sheet && ln -s real.sheet store/next && ln -s store/next link && "$host" link >/dev/null
 holds "a link stays a link" [ "$(readlink link) $(readlink store/next)" = "store/next real.sheet" ]
 holds "the file behind two links is worked" settled store/real.sheet
-holds "nothing else is left beside it" [ "$(ls store)" = $'next\nreal.sheet' ]
+holds "nothing else is left beside it" [ "$(ls -A store)" = $'next\nreal.sheet' ]
 fresh && mkdir store && ln -s "$PWD/store/new.sheet" link && "$host" -o link a.sheet >/dev/null
 holds "a link to a file that is not there yet stays a link" [ -L link ]
 holds "and the file is made where it leads" settled store/new.sheet
@@ -125,13 +125,13 @@ holds "output that cannot be written ends the host" [ $? -eq 1 ]
 holds "it is said too" [ "$(cat said)" = "host: standard output: No space left on device" ]
 holds "and the sheet is saved" settled a.sheet
 
-cc -std=c99 -Wall -Wextra -Werror -shared -fPIC "$here/tests/c/recorded.c" -o "$folder/.recorded.so" || exit 1
-fresh && RECORD=record LD_PRELOAD=$folder/.recorded.so "$host" a.sheet >/dev/null
+cc -std=c99 -Wall -Wextra -Werror -shared -fPIC "$here/tests/c/recorded.c" -o "$here/target/recorded.so" || exit 1
+fresh && RECORD=record LD_PRELOAD=$here/target/recorded.so "$host" a.sheet >/dev/null
 holds "the file is synced, then renamed, then its folder is synced" [ "$(cat record)" = $'sync of the file\nrename\nsync of the folder' ]
-fresh && SYNC_FAILS=1 LD_PRELOAD=$folder/.recorded.so "$host" a.sheet 2>said >/dev/null
+fresh && SYNC_FAILS=1 LD_PRELOAD=$here/target/recorded.so "$host" a.sheet 2>said >/dev/null
 holds "a sync that fails ends the host" [ $? -eq 1 ]
 holds "it is said" [ "$(cat said)" = "host: a.sheet: Input/output error" ]
 holds "the sheet stays as it was" blank a.sheet
-rm -f said && holds "and no file is left over" [ "$(ls)" = a.sheet ]
+rm -f said && holds "and no file is left over" only a.sheet
 
 [ "$failures" -eq 0 ]
