@@ -37,7 +37,7 @@ static uint8_t sheet[LDFS_SHEET_MOST + 1];
 static uint8_t table[LDFS_TABLE_LEAST];
 static uint8_t result[LDFS_RESULT_LEAST];
 
-/* Refusals in words, by their numbers. */
+/* Refusals in words, by their numbers. A later library may know more of them. */
 static const char *const refusals[] = {
     "",
     "the table or the result is too short",
@@ -126,23 +126,6 @@ static int follow(const char *name, char *real, size_t room)
     return complaint(name, "too many links");
 }
 
-/* Finds the file to save to, before any work: it is a plain one that this process may write, or is not there yet. */
-static int find(const char *name, char *real, size_t room)
-{
-    struct stat old;
-    if (!follow(name, real, room))
-        return 0;
-    if (stat(real, &old) != 0)
-        return errno == ENOENT || failure(name);
-    if (!S_ISREG(old.st_mode))
-        return complaint(name, "not a plain file");
-    int file = open(name, O_WRONLY | O_NONBLOCK | O_NOCTTY | O_CLOEXEC);
-    if (file < 0)
-        return failure(name);
-    close(file);
-    return 1;
-}
-
 /* Opens a new file in the folder of another one, under a name that nothing else has: .host.tmp., the number of the process and one more. */
 static int open_beside(const char *name, mode_t mode, char *temporary, size_t room)
 {
@@ -217,6 +200,52 @@ static int sync_folder(const char *name)
     return good;
 }
 
+/* Makes the new file that is to take the place of another one, with its owner, group, access list and mode, and says why it cannot. */
+static int make_beside(const char *name, char *temporary, size_t room)
+{
+    struct stat old;
+    int there = stat(name, &old) == 0;
+    if (!there && errno != ENOENT) {
+        failure(name);
+        return -1;
+    }
+    int file = open_beside(name, there ? 0600 : 0666, temporary, room);
+    if (file < 0) {
+        fprintf(stderr, "host: %s: no new file can be made beside it: %s\n", name, strerror(errno));
+        return -1;
+    }
+    if (there && !keep_rights(file, name, &old)) {
+        complaint(name, "its owner, group, access list and mode cannot be kept");
+        close(file);
+        unlink(temporary);
+        return -1;
+    }
+    return file;
+}
+
+/* Finds the file to save to, before any work: it is a plain one that this process may write, or is not there yet, and a file can be made
+   that may take its place. */
+static int find(const char *name, char *real, size_t room)
+{
+    char temporary[PATH_MAX + 64];
+    struct stat old;
+    if (!follow(name, real, room))
+        return 0;
+    int there = stat(real, &old) == 0;
+    if (there && !S_ISREG(old.st_mode))
+        return complaint(name, "not a plain file");
+    int file = there ? open(real, O_WRONLY | O_NONBLOCK | O_NOCTTY | O_CLOEXEC) : -1;
+    if (there && file < 0)
+        return failure(name);
+    if (there)
+        close(file);
+    file = make_beside(real, temporary, sizeof temporary);
+    if (file < 0)
+        return 0;
+    close(file);
+    return unlink(temporary) == 0 || failure(temporary);
+}
+
 /* The sheet goes to a new file beside the old one, which takes its place in one step (rename) once the disk has it: whenever the host or
    the machine ends, the file named holds the sheet of before or this one, and never a part of it. Where the owner, the group, the access
    list or the mode cannot be kept, nothing is saved. Other attributes and other names (hard links) of the old file are not carried over.
@@ -225,15 +254,10 @@ static int sync_folder(const char *name)
 static int save(const char *name, size_t length)
 {
     char temporary[PATH_MAX + 64];
-    struct stat old;
-    int there = stat(name, &old) == 0;
-    if (!there && errno != ENOENT)
-        return failure(name);
-    int file = open_beside(name, there ? 0600 : 0666, temporary, sizeof temporary);
+    int file = make_beside(name, temporary, sizeof temporary);
     if (file < 0)
-        return failure(name);
-    int good = !there || keep_rights(file, name, &old) || complaint(name, "its owner, group, access list and mode cannot be kept");
-    good = good && (write_all(file, length) || failure(name));
+        return 0;
+    int good = write_all(file, length) || failure(name);
     close(file); /* the disk has it all by now */
     good = good && (rename(temporary, name) == 0 || failure(name));
     if (!good)
@@ -304,7 +328,10 @@ static uint32_t work(size_t length, uint64_t budget)
     uint64_t price = little(result + LDFS_RESULT_PRICE, 8);
     uint64_t passes = little(result + LDFS_RESULT_PASSES, 8), raises = little(result + LDFS_RESULT_RAISES, 8);
     if (number < LDFS_SETTLED)
-        printf("refused %" PRIu32 ": %s\n", number, refusals[number]);
+        printf("refused %" PRIu32 ": %s\n", number,
+               number < sizeof refusals / sizeof *refusals ? refusals[number] : "not known to this host");
+    else if (number > LDFS_NONE)
+        printf("outcome %" PRIu32 ": not known to this host\n", number);
     else if (price == LDFS_NO_PLAN) /* a stopped call may know it too */
         printf("%s: there is no complete plan (passes %" PRIu64 ", raises %" PRIu64 ")\n", number == LDFS_NONE ? "none" : "stopped", passes,
                raises);
@@ -367,8 +394,8 @@ int main(int count, char **words)
     uint32_t number = LDFS_STOPPED;
     for (uint64_t i = 0; number == LDFS_STOPPED && i < calls; i++) {
         number = work(length, budget);
-        /* A refused sheet is as it was, and nothing is saved. */
-        int saved = number >= LDFS_SETTLED && save(place, length);
+        /* A refused sheet is as it was, and nothing is saved; nor is it after an outcome of a later library. */
+        int saved = number >= LDFS_SETTLED && number <= LDFS_NONE && save(place, length);
         if (!printed() || !saved)
             return FAILED;
     }

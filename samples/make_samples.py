@@ -36,8 +36,8 @@ def junction(checks, value=0, mark=OPEN, chosen=0, count=None):
     return own + b"".join(check(cost, findings) for cost, findings in checks)
 
 
-def sheet(kind, stages):
-    return head(kind, len(stages)) + b"".join(stages)
+def sheet(kind, stages, start=0):
+    return head(kind, len(stages), start) + b"".join(stages)
 
 
 def sheet_a(first_cost=200):

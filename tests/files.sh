@@ -33,11 +33,11 @@ blank() {
   cmp -s "$1" "$here/samples/a.sheet"
 }
 
-# says MESSAGE ARGUMENT..: the host fails, with just this on standard error
+# says MESSAGE ARGUMENT..: the host fails before any work: it says just this, and prints nothing
 says() {
   local message=$1 said
   shift
-  said=$("$host" "$@" 2>&1 >/dev/null)
+  said=$("$host" "$@" 2>&1)
   [ $? -eq 1 ] && [ "$said" = "$message" ]
 }
 
@@ -78,7 +78,8 @@ for name in stdout /dev/fd/1 //proc/self/fd/1; do
   fresh && ln -s /proc/self/fd/1 stdout && echo text >log && "$host" -o $name a.sheet >>log 2>said
   holds "nor is an open file, by $name" [ "$(cat log said)" = $'text\nhost: '"$name: not a plain file" ]
 done
-holds "a folder that is missing is said" says "host: none/a.sheet: No such file or directory" -o none/a.sheet a.sheet
+fresh && holds "a folder that is missing is said" \
+  says "host: none/a.sheet: no new file can be made beside it: No such file or directory" -o none/a.sheet a.sheet
 
 # only root may give a file away, and root may write every file: each of these two is tried by those who can
 if fresh && chown 1234:5678 a.sheet 2>/dev/null; then
@@ -88,6 +89,10 @@ fi
 if fresh && chmod 444 a.sheet && [ ! -w a.sheet ]; then
   holds "a file that may not be written stays" says "host: a.sheet: Permission denied" a.sheet
   holds "and is blank" blank a.sheet
+  fresh && mkdir store && mv a.sheet store && chmod 555 store
+  holds "a folder that may not be written is said" says "host: store/a.sheet: no new file can be made beside it: Permission denied" store/a.sheet
+  holds "and the sheet is blank" blank store/a.sheet
+  chmod 755 store
 fi
 
 # access_list set|default|same|none NAME: gives a file this access list, or a folder's new files; or asks whether the file has it, or has none. By it
