@@ -231,18 +231,18 @@ static int find(const char *name, char *real, size_t room)
     struct stat old;
     if (!follow(name, real, room))
         return 0;
-    int there = stat(real, &old) == 0;
-    if (there && !S_ISREG(old.st_mode))
-        return complaint(name, "not a plain file");
-    int file = there ? open(real, O_WRONLY | O_NONBLOCK | O_NOCTTY | O_CLOEXEC) : -1;
-    if (there && file < 0)
-        return failure(name);
-    if (there)
-        close(file);
-    file = make_beside(real, temporary, sizeof temporary);
-    if (file < 0)
+    if (stat(real, &old) == 0) {
+        if (!S_ISREG(old.st_mode))
+            return complaint(name, "not a plain file");
+        int own = open(real, O_WRONLY | O_NONBLOCK | O_NOCTTY | O_CLOEXEC);
+        if (own < 0)
+            return failure(name);
+        close(own);
+    }
+    int trial = make_beside(real, temporary, sizeof temporary);
+    if (trial < 0)
         return 0;
-    close(file);
+    close(trial);
     return unlink(temporary) == 0 || failure(temporary);
 }
 
