@@ -3,8 +3,8 @@
 #
 #     ./install.sh PREFIX
 #
-# puts PREFIX/lib/libldfs.a, PREFIX/include/ldfs.h, PREFIX/lib/pkgconfig/ldfs.pc and PREFIX/bin/price there, and beside them PREFIX/share/doc/ldfs
-# with HOST.md, SPEC.md, host.c, which is a host to start from, and the sample sheets. A host is then built with
+# puts PREFIX/lib/libldfs.a, PREFIX/include/ldfs.h, PREFIX/lib/pkgconfig/ldfs.pc and PREFIX/bin/price there, and beside them
+# PREFIX/share/doc/ldfs with HOST.md, SPEC.md, host.c, which is a host to start from, and the sample sheets. A host is then built with
 #
 #     cc host.c -IPREFIX/include -LPREFIX/lib -lldfs
 #
@@ -24,7 +24,8 @@ cd "$(dirname "$0")"
 # document FILE TO: installs a document, with its links as they are there; a link to a file that is not installed becomes its words
 document() {
     rm -f "$2"
-    sed -E -e 's#\[([^]]*)\]\((\.\./(crates|tests)/|(\.\./docs/)?(PROMISES|DECISIONS|PERFORMANCE|GLOSSARY)\.md)[^)]*\)#\1 (in the source)#g' \
+    away='\.\./(crates|tests)/|(\.\./docs/)?(PROMISES|DECISIONS|PERFORMANCE|GLOSSARY)\.md'
+    sed -E -e 's#\[([^]]*)\]\(('"$away"')[^)]*\)#\1 (in the source)#g' \
         -e 's#\[examples/host\.c\]\(\.\./examples/host\.c\)#[host.c](host.c)#g' -e 's#\]\(\.\./include/#](../../../include/#g' \
         -e 's#\]\(\.\./docs/#](../#g' -e 's#\]\(\.\./samples/#](samples/#g' "$1" >"$2"
 }

@@ -90,13 +90,14 @@ if fresh && chmod 444 a.sheet && [ ! -w a.sheet ]; then
   holds "a file that may not be written stays" says "host: a.sheet: Permission denied" a.sheet
   holds "and is blank" blank a.sheet
   fresh && mkdir store && mv a.sheet store && chmod 555 store
-  holds "a folder that may not be written is said" says "host: store/a.sheet: no new file can be made beside it: Permission denied" store/a.sheet
+  holds "a folder that may not be written is said" \
+    says "host: store/a.sheet: no new file can be made beside it: Permission denied" store/a.sheet
   holds "and the sheet is blank" blank store/a.sheet
   chmod 755 store
 fi
 
-# access_list set|default|same|none NAME: gives a file this access list, or a folder's new files; or asks whether the file has it, or has none. By it
-# the owner and user 1234 may read and write, and the group and others may not
+# access_list set|default|same|none NAME: gives a file this access list, or a folder's new files; or asks whether the file has it, or has
+# none. By it the owner and user 1234 may read and write, and the group and others may not
 access_list() {
   python3 - "$@" <<'END'
 import os, struct, sys
