@@ -1,6 +1,6 @@
 -- What is written reads back.
 use Prim.Native.Nat.{ℕ, zero, suc, _+_, _-_, _/_, _<_, _≤_}
-use mathlib.Core.Path.{_≡_, refl, ap, sym}
+use mathlib.Core.Path.{_≡_, refl, ap, sym, subst}
 use mathlib.Core.Bool.{true}
 use mathlib.Core.List.{List, [], _∷_, _++_, append-assoc}
 use native.Mathlib.Omega.{arith}
@@ -13,7 +13,7 @@ use Rattle.model.specs.Problem.{Kind, worst, whole, Action, Form, plain, counte
 use Rattle.model.specs.Problem.{states, cellOf}
 use Rattle.model.specs.Format.{be16, be32, terminalTag, decisionTag, actionTag, terminalLength, decisionLength, actionLength}
 use Rattle.model.specs.Format.{successorsBytes, actionBytes, actionsBytes, formBytes, nodeBytes}
-use Rattle.model.specs.Format.{nodesBytes, kindByte, write}
+use Rattle.model.specs.Format.{headTag, nodesBytes, kindByte, write}
 use Rattle.model.specs.Limits.{maxStates, maxActions}
 use Rattle.model.specs.Read.{actionFits, successorsRead, actionRead, actionsGood, actionsRead, actionsLong}
 use Rattle.model.specs.Read.{pastActions, fieldFits, formRead, headerFits, decisionFits, nodesGood, nodesRead, cellsRead, kindOf}
@@ -126,9 +126,13 @@ module _ (p : Problem) (cells : List Cell) (h : Shaped p cells) where
   unfolding cellsOf write be16
   cells-back = rw (two (states p)) (body .2)
 
-  pub head-good : question3 maxStates (write p cells) ≡ true
+  pub head-good : question3 (p .head) maxStates (write p cells) ≡ true
   unfolding question3 write be16
-  head-good = true-all _ (refl, (refl, omega (arith, le-leb, lt-ltb, kind-small (p .kind))))
+  head-good = true-all _ (eq-eqb (p .head) (p .head) refl, (refl, omega (arith, le-leb, lt-ltb, kind-small (p .kind))))
+
+  -- the same by the tag that an ordinary head has
+  pub ordinary-good : p .head ≡ headTag → question3 headTag maxStates (write p cells) ≡ true
+  ordinary-good e = subst (λ (t : ℕ). question3 t maxStates (write p cells) ≡ true) e head-good
 
   pub body-good : question4 (write p cells) ≡ true
   unfolding question4 write be16

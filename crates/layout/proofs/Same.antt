@@ -221,7 +221,7 @@ nodes-written (suc n) r byte good = by-tag (eqb (tag r) terminalTag) refl (nodes
         let others = ih (pastActions maxActions (pastHeader r)) past (f .1) in
         rw e (written-cons (decision-same r byte (f .0)) (decision-shaped r byte (f .0)) tt others)
 
-module _ (bs : List ℕ) (byte : Bytes bs) (head : question3 maxStates bs ≡ true) (body : question4 bs ≡ true) where
+module _ (wanted : ℕ) (bs : List ℕ) (byte : Bytes bs) (head : question3 wanted maxStates bs ≡ true) (body : question4 bs ≡ true) where
   body-written : Written (be16 bs 4) (drop 8 bs) (problemOf bs .nodes) (cellsOf bs)
   unfolding question4 problemOf cellsOf
   body-written = nodes-written (be16 bs 4) (drop 8 bs) (bytes-drop 8 bs byte) body
@@ -232,6 +232,10 @@ module _ (bs : List ℕ) (byte : Bytes bs) (head : question3 maxStates bs ≡ tr
       let e = head-says bs head in let w = body-written in let kind = kind-same (getD bs 3 0) (e .3) in
       let t = two-back bs 1 byte in let n = two-back bs 4 byte in let m = two-back bs 6 byte in
       peel 8 0 bs (e .2) ∙ cc
+
+  pub read-head : problemOf bs .head ≡ wanted
+  unfolding problemOf
+  read-head = head-says bs head .0
 
   pub read-shaped : Shaped (problemOf bs) (cellsOf bs)
   unfolding problemOf

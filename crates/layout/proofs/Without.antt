@@ -33,12 +33,12 @@ until-action (a ∷ more) r (suc i) le =
     rw (← action-length a, append-assoc, take-append-add (actionBytes a) (actionsBytes more ++ r), until-action more r i (omega arith))
 
 -- a decision's own field, and its actions behind it
-own-field : (form : Form) (acts : List Action) (c : Cell) →
+pub own-field : (form : Form) (acts : List Action) (c : Cell) →
     nodeBytes (decision form acts) c ≡ nodeBytes (decision form []) c ++ actionsBytes acts
 unfolding nodeBytes actionsBytes
 own-field form acts c = simp append-assoc refl
 
-own-length : (form : Form) (c : Cell) → length (nodeBytes (decision form []) c) ≡ decisionSize form
+pub own-length : (form : Form) (c : Cell) → length (nodeBytes (decision form []) c) ≡ decisionSize form
 unfolding nodeBytes actionsBytes
 own-length form c = omega (arith, form-length form, length-append (formBytes form) [])
 
@@ -63,7 +63,8 @@ less-length acts i lt = rw (length-append, length-take, length-drop) (omega arit
 
 -- the problem p without action i of decision s
 abbrev pub lessProblem : Problem → ℕ → Form → List Action → ℕ → Problem
-lessProblem p s form acts i = problem (p .kind) (p .start) (set (p .nodes) s (decision form (lessAction acts i)))
+lessProblem p s form acts i =
+    record { head = p .head; kind = p .kind; start = p .start; nodes = set (p .nodes) s (decision form (lessAction acts i)) }
 
 module _ (p : Problem) (cells : List Cell) (s : ℕ) (lt : s < states p) {form : Form} (acts : List Action)
     (is : nodeAt p s ≡ decision form acts) (i : ℕ) (li : i < length acts) where

@@ -3,7 +3,7 @@ use Prim.Native.Nat.{ℕ, _≤_, _<_}
 use mathlib.Core.Path.{_≡_}
 use mathlib.Core.List.{List, [], _∷_}
 use lib.ListN.{length, set}
-use Rattle.model.specs.Problem.{Action, Node, terminal, decision, Problem, Cell, cell, states, nodeAt, cellOf}
+use Rattle.model.specs.Problem.{Action, Form, Node, terminal, decision, Problem, Cell, cell, states, nodeAt, actionAt, cellOf, _∈_}
 use Rattle.model.specs.Limits.{maxStates, maxActions, maxSuccessors}
 
 -- an action has 1 to 16 successors
@@ -35,6 +35,11 @@ pub record Shaped (p : Problem) (cells : List Cell) : Type 0 where
   pub nodes : NodesShaped (p .nodes)
   pub count : length cells ≡ states p
   pub chosen : (s : ℕ) → s < states p → ChosenShaped (nodeAt p s) (cellOf cells s)
+
+-- every successor is a state, wherever it lies
+abbrev pub Inside : Problem → Type 0
+Inside p = (s i t : ℕ) (form : Form) (acts : List Action) → nodeAt p s ≡ decision form acts → t ∈ actionAt acts i .successors →
+    t < states p
 
 abbrev pub setMark : List Cell → ℕ → ℕ → List Cell
 setMark cells s m = set cells s (cell (cellOf cells s .value) m (cellOf cells s .chosen))

@@ -11,7 +11,7 @@ use Rattle.model.specs.declared.Outcome.{Outcome}
 use Rattle.model.specs.declared.Outcome.the-variants.{Settled, Over, Stopped, None}
 use Rattle.model.specs.Tests.{fork}
 use Rattle.model.specs.Problem.{Cell, states, cellOf, valueOf, solved}
-use Rattle.model.specs.Format.{Bytes, be16, offset, write}
+use Rattle.model.specs.Format.{Bytes, headTag, be16, offset, write}
 use Rattle.model.specs.Read.{problemOf, cellsOf}
 use Rattle.model.specs.Limits.{ceiling, maxStates}
 use Rattle.model.specs.Questions.{question9, Question, question, checkQuestionsUnder, firstNo}
@@ -166,7 +166,7 @@ module _ (s t : List ℕ) (budget : ℕ) where
 
       -- the table is long enough, and as long as it was
       enough : states (problemOf s) ≤ length t
-      enough = omega (arith, states-within s (yes .1 .1 .0))
+      enough = omega (arith, states-within headTag s (yes .1 .1 .0))
 
       long : length t′ ≡ length t
       long = rw (filled, length-append, offsets-count 8 (problemOf s .nodes), length-drop) (omega (arith, enough))

@@ -22,8 +22,9 @@ use Rattle.ldfs.specs.Made.{Solved}
 use Rattle.listing.specs.declared.Listed.{Listed}
 use Rattle.listing.specs.declared.Listed.the-variants.{TooShort, Written}
 use Rattle.listing.specs.Listing.{lineOne, planOf, listing, enough, listedAs, sheetListed, tableListed, textListed}
-use Rattle.listing.specs.Put.{Wrote, Listable}
-use Rattle.listing.proofs.Writing.{wrote-behind}
+use Rattle.layout.specs.Placed.{Wrote}
+use Rattle.listing.specs.Put.{Listable}
+use Rattle.layout.proofs.Wrote.{wrote-behind}
 
 -- a sheet and its index after a call that is not refused
 module _ (s t : List ℕ) (budget : ℕ) (bytes : Bytes s) where

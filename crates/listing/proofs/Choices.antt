@@ -8,7 +8,7 @@ use Rattle.sheet.specs.Sheet.{Terminal, Decision}
 use Rattle.sheet.proofs.Laws.{is-terminal, is-decision}
 use Rattle.listing.specs.Text.{ascii}
 use Rattle.listing.specs.Listing.{field, choiceOf, lineEnd}
-use Rattle.listing.specs.Put.{Wrote}
+use Rattle.layout.specs.Placed.{Wrote}
 
 module _ {s t : List ℕ} {i : ℕ} (c : Cell) {out out′ : List ℕ} {at next : ℕ} where
   pub wrote-end : Terminal s t i → Wrote out out′ at next (ascii " end") →

@@ -17,8 +17,9 @@ use Rattle.sheet.specs.Sheet.{Within, Terminal, Decision, Priced}
 use Rattle.sheet.proofs.Laws.{is-terminal, is-decision, actionsAt}
 use Rattle.search.proofs.Actions.{Turn, turn-is, turn-priced}
 use Rattle.listing.specs.Listing.{stateLine, chosenSuccessorsOf, chosenSuccessors, listed, reachedBelow, stateLines, maxStateLine}
-use Rattle.listing.specs.Put.{Wrote, Listable, Chooses, flagged}
-use Rattle.listing.proofs.Writing.{wrote-none, wrote-length, wrote-behind}
+use Rattle.layout.specs.Placed.{Wrote}
+use Rattle.listing.specs.Put.{Listable, Chooses, flagged}
+use Rattle.layout.proofs.Wrote.{wrote-none, wrote-length, wrote-behind}
 
 -- flags that go up one after the other
 flagged-last : (f : List Bool) (ts : List ℕ) (t : ℕ) → flagged f (ts ++ t ∷ []) ≡ set (flagged f ts) t true

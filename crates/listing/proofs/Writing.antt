@@ -1,59 +1,19 @@
--- Text written piece behind piece, and a number's digits from the last to the first.
+-- A number's digits, from the last to the first.
 use Prim.Native.Nat.{ℕ, _+_, _-_, _/_, _^_, _<_, _≤_}
 use mathlib.Core.Path.{_≡_, refl, ap, sym, subst, _∙_}
 use mathlib.Core.Bool.{Bool, true, false}
 use mathlib.Core.List.{List, [], _∷_, _++_, append-nil, append-assoc}
 use native.Mathlib.Omega.{arith}
-use native.Mathlib.Nat.{add-zero, zero-add}
+use native.Mathlib.Nat.{zero-add}
 use borrow.Author.Tests.{ltb-true, ltb-false, le-leb, lt-leb}
 use lib.Dec.{ltb}
-use native.Mathlib.Numerals.{add-one}
-use lib.ListN.{length, getD, take, set, length-append}
-use lib.Seq.{length-take-le, take-all, take-suc}
-use Rattle.layout.specs.Placed.{placed}
-use Rattle.layout.proofs.Placed.{placed-none, placed-byte, placed-length, placed-then, placed-ahead}
+use lib.ListN.{length, set, length-append}
+use Rattle.layout.specs.Placed.{Wrote}
+use Rattle.layout.proofs.Wrote.{wrote-none, wrote-byte, wrote-length, wrote-ahead}
 use Rattle.listing.specs.Text.{lastDigit, decimal}
 use Rattle.listing.specs.Width.{widthOf, numberIn}
-use Rattle.listing.specs.Put.{Wrote}
 use Rattle.listing.proofs.Decimal.{decimal-one, decimal-more}
 use Rattle.listing.proofs.Widths.{width-digits, decimal-few}
-
--- nothing, and one byte
-pub wrote-none : (s : List ℕ) (at : ℕ) → at ≤ length s → Wrote s s at at []
-wrote-none s at h = record { room = omega arith; bytes = placed-none s at; behind = sym (add-zero at) }
-
-pub wrote-byte : (s : List ℕ) (at b : ℕ) → at < length s → Wrote s (set s at b) at (at + 1) (b ∷ [])
-wrote-byte s at b h = record { room = omega arith; bytes = placed-byte s at b h; behind = refl }
-
--- a text keeps the buffer's length, and one can be written behind another, or before it
-module _ {s s′ : List ℕ} {at next : ℕ} {x : List ℕ} (w : Wrote s s′ at next x) where
-  pub wrote-length : length s′ ≡ length s
-  wrote-length = ap length (w .bytes) ∙ placed-length s at x (w .room)
-
-  pub wrote-behind : {s″ : List ℕ} {end : ℕ} {y : List ℕ} → Wrote s′ s″ next end y → Wrote s s″ at end (x ++ y)
-  wrote-behind {s″} {end} {y} v = record {
-    room = rw length-append (omega (arith, v .room, w .behind, wrote-length));
-    bytes = placed-then s s′ s″ x y at (w .room) (w .bytes) (v .bytes ∙ ap (λ (n : ℕ). placed n y s′) (w .behind));
-    behind = rw length-append (omega (arith, v .behind, w .behind));
-  }
-
-  pub wrote-ahead : {s″ : List ℕ} {from : ℕ} {y : List ℕ} → Wrote s′ s″ from at y → Wrote s s″ from next (y ++ x)
-  wrote-ahead {s″} {from} {y} v = record {
-    room = rw length-append (omega (arith, v .behind, w .room));
-    bytes = v .bytes ∙ ap (placed from y) (rw (← v .behind) (w .bytes)) ∙ placed-ahead s y x from (omega (arith, v .behind, w .room));
-    behind = rw length-append (omega (arith, v .behind, w .behind));
-  }
-
--- A word, byte after byte.
-module _ (s s′ w : List ℕ) (at next i : ℕ) (h : Wrote s s′ at next (take i w)) (lt : i < length w) where
-  pub next-room : at + length w ≤ length s → next < length s′
-  next-room room = omega (arith, h .behind, wrote-length h, length-take-le i w (omega arith))
-
-  pub next-byte : (s″ : List ℕ) (end : ℕ) → Wrote s′ s″ next end (getD w i 0 ∷ []) → Wrote s s″ at end (take (i + 1) w)
-  next-byte s″ end v = rw (add-one, take-suc w i 0 lt) (wrote-behind h v)
-
-pub whole-word : (s s′ w : List ℕ) (at next i : ℕ) → Wrote s s′ at next (take i w) → length w ≤ i → Wrote s s′ at next w
-whole-word s s′ w at next i h le = rw (take-all i w le) at h
 
 -- A number, from its last digit to its first: what is left of it has the digits that stand before those that are written.
 pub record Digits (s s′ : List ℕ) (at x end i rest : ℕ) : Type 0 where

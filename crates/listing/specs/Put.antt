@@ -1,5 +1,5 @@
 -- What the contracts of the private functions say.
-use Prim.Native.Nat.{ℕ, _+_, _<_, _≤_}
+use Prim.Native.Nat.{ℕ, _<_}
 use mathlib.Core.Path.{_≡_}
 use mathlib.Core.Bool.{Bool, true}
 use mathlib.Core.List.{List, [], _∷_}
@@ -7,15 +7,8 @@ use lib.ListN.{length, set}
 use Rattle.model.specs.Problem.{Action, Form, decision, Problem, Cell, nodeAt, cellOf}
 use Rattle.model.specs.Read.{problemOf, cellsOf}
 use Rattle.model.specs.Policy.{Closed, written}
-use Rattle.layout.specs.Placed.{placed}
 use Rattle.sheet.specs.Sheet.{Sheet}
 use Rattle.theory.specs.Consistent.{WellFormed}
-
--- a text was written into a buffer at a place, and the rest of the buffer kept
-pub record Wrote (before after : List ℕ) (at next : ℕ) (text : List ℕ) : Type 0 where
-  pub room : at + length text ≤ length before
-  pub bytes : after ≡ placed at text before
-  pub behind : next ≡ at + length text
 
 -- the most digits of a number of 64 bits; what follows is the most bytes of parts of a line, with so many digits for every number
 abbrev pub maxDigits : ℕ

@@ -5,7 +5,8 @@ ghost use Prim.Native.Nat.{_+_, _<_, _≤_};
 ghost use lib.ListN.{length};
 ghost use Rattle.listing.specs.Text.{lastDigit, decimal};
 ghost use Rattle.listing.specs.Listing.{field};
-ghost use Rattle.listing.specs.Put.{Wrote, maxDigits};
+ghost use Rattle.layout.specs.Placed.{Wrote};
+ghost use Rattle.listing.specs.Put.{maxDigits};
 use super::width::width;
 
 // One byte.

@@ -1,12 +1,12 @@
 -- Lists of numbered questions: their first no, and that there is none.
 use Prim.Native.Nat.{ℕ, _<_, _≤_}
-use mathlib.Core.Path.{_≡_, refl}
+use mathlib.Core.Path.{_≡_, refl, sym, _∙_}
 use mathlib.Core.Bool.{Bool, true, false}
 use mathlib.Core.Logic.{_⊎_, inl, inr}
-use mathlib.Core.List.{List, [], _∷_}
+use mathlib.Core.List.{List, [], _∷_, _++_}
 use native.Mathlib.Omega.{arith}
-use borrow.Author.Tests.{leb-true, ltb-true}
-use lib.Dec.{leb, ltb}
+use borrow.Author.Tests.{leb-true, ltb-true, eq-eqb}
+use lib.Dec.{eqb, leb, ltb}
 use Rattle.model.specs.Tests.{fork}
 use Rattle.model.specs.Questions.{Question, firstNo}
 use Rattle.model.proofs.TestLaws.{never}
@@ -61,6 +61,22 @@ first-below low (asked ∷ more) m =
     go true few ih = ih
     go false few ih = few
 
+-- has no question the number k? It computes too, and then k is no first no.
+abbrev pub unnumbered : ℕ → List Question → Bool
+unnumbered k [] = true
+unnumbered k (asked ∷ more) = fork (eqb (asked .number) k) (λ _. false) (λ _. unnumbered k more)
+
+pub no-number : (k : ℕ) (asked : List Question) → unnumbered k asked ≡ true → 0 < k → firstNo asked ≡ k → ⊥
+unfolding firstNo
+no-number k [] m some h = omega arith
+no-number k (asked ∷ more) m some h = go (asked .answer tt) (eqb (asked .number) k) refl m h (no-number k more)
+  where
+    go : (answer same : Bool) → eqb (asked .number) k ≡ same → fork same (λ _. false) (λ _. unnumbered k more) ≡ true →
+        fork answer (λ _. firstNo more) (λ _. asked .number) ≡ k → (unnumbered k more ≡ true → 0 < k → firstNo more ≡ k → ⊥) → ⊥
+    go answer true e m h ih = never m
+    go true false e m h ih = ih m some h
+    go false false e m h ih = never (sym e ∙ eq-eqb _ _ h)
+
 -- Where the numbers are above 0, there is no first no just where every answer is yes.
 pub none-no : (asked : List Question) → numbered 1 asked ≡ true → firstNo asked ≡ 0 → AllYes asked
 unfolding firstNo
@@ -77,3 +93,19 @@ pub all-yes : (asked : List Question) → AllYes asked → firstNo asked ≡ 0
 unfolding firstNo
 all-yes [] h = refl
 all-yes (asked ∷ more) h = rw (h .0) (all-yes more (h .1))
+
+-- Two lists of questions, one put after the other: the first no of the first, and where that has none, of the second.
+pub joined-no : (asked more : List Question) → (firstNo asked ≡ 0 → ⊥) → firstNo (asked ++ more) ≡ firstNo asked
+unfolding firstNo
+joined-no [] more some = absurd (some refl)
+joined-no (first ∷ asked) more some = go (first .answer tt) refl (joined-no asked more)
+  where
+    go : (b : Bool) → first .answer tt ≡ b → ((firstNo asked ≡ 0 → ⊥) → firstNo (asked ++ more) ≡ firstNo asked) →
+        firstNo ((first ∷ asked) ++ more) ≡ firstNo (first ∷ asked)
+    go true e ih = rw e (ih (λ z. some (rw e z)))
+    go false e ih = rw e
+
+pub joined-yes : (asked more : List Question) → AllYes asked → firstNo (asked ++ more) ≡ firstNo more
+unfolding firstNo
+joined-yes [] more h = refl
+joined-yes (first ∷ asked) more h = rw (h .0) (joined-yes asked more (h .1))

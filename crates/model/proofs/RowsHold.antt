@@ -18,7 +18,7 @@ use Rattle.model.proofs.Computing.{computing}
 use Rattle.model.proofs.TestLaws.{never, also-true}
 
 -- The test of a row, and of all.
-same : List ℕ → List ℕ → Bool
+unfoldable pub same : List ℕ → List ℕ → Bool
 same [] [] = true
 same [] (y ∷ ys) = false
 same (x ∷ xs) [] = false
@@ -81,7 +81,7 @@ unfolding rows
 rows-pass = all-pass 15 rows (lit≤ tt) parts-pass
 
 -- The test that passes is the row that holds.
-same-is : (xs ys : List ℕ) → same xs ys ≡ true → xs ≡ ys
+pub same-is : (xs ys : List ℕ) → same xs ys ≡ true → xs ≡ ys
 unfolding same
 same-is [] [] h = refl
 same-is [] (y ∷ ys) h = never h

@@ -21,7 +21,7 @@ everyState p f = every (states p) (λ s. f s (nodeAt p s))
 abbrev pub everyAction : List Action → (Action → Bool) → Bool
 everyAction acts f = every (length acts) (λ i. f (actionAt acts i))
 
--- Questions 1 and 3 have the limit of stages as their first argument, so that a call under another limit can be spoken of (S8.12); it is
+-- Questions 1 and 3 have the limit of stages as an argument, so that a call under another limit can be spoken of (S8.12); it is
 -- 4,096, `maxStates`, where no other is named.
 -- S4.1, room: has the index table as many entries as that, or more?
 unfoldable pub question1 : ℕ → ℕ → Bool
@@ -31,11 +31,11 @@ question1 limit entries = leb limit entries
 unfoldable pub question2 : List ℕ → Bool
 question2 s = all (leb minBytes (length s) ∷ leb (length s) maxBytes ∷ [])
 
--- S4.3, head: does it begin with a head whose kind is 0 or 1, stages 1 to the limit, start below that number?
-unfoldable pub question3 : ℕ → List ℕ → Bool
-question3 limit s =
+-- S4.3, head: does it begin with a head of the tag that is wanted, whose kind is 0 or 1, stages 1 to the limit, start below that number?
+unfoldable pub question3 : ℕ → ℕ → List ℕ → Bool
+question3 wanted limit s =
     all (
-    eqb (tag s) headTag ∷ eqb (contentLength s) headLength ∷ leb headSize (length s) ∷ leb (getD s kindIn 0) 1
+    eqb (tag s) wanted ∷ eqb (contentLength s) headLength ∷ leb headSize (length s) ∷ leb (getD s kindIn 0) 1
     ∷ leb 1 (be16 s statesIn) ∷ leb (be16 s statesIn) limit ∷ ltb (be16 s startIn) (be16 s statesIn) ∷ []
     )
 
@@ -85,16 +85,21 @@ unfoldable pub ascending : ℕ → ℕ → ℕ → List ℕ → Bool
 ascending d low n [] = true
 ascending d low n (t ∷ ts) = also (all (leb low t ∷ ltb t n ∷ [])) (λ _. ascending d (t + d) n ts)
 
+-- `successorsInOrder d low n`, of a stage: the findings of each of its checks so
 unfoldable pub successorsInOrder : ℕ → ℕ → ℕ → Node → Bool
-successorsInOrder d n s (terminal cost) = true
-successorsInOrder d n s (decision form acts) = everyAction acts (λ a. ascending d (s + 1) n (a .successors))
+successorsInOrder d low n (terminal cost) = true
+successorsInOrder d low n (decision form acts) = everyAction acts (λ a. ascending d low n (a .successors))
 
--- the findings of every check in order, each d or more above the one before it
+-- the findings of every check in order, above their junction, each d or more above the one before it
 abbrev pub inOrder : ℕ → Problem → Bool
-inOrder d p = everyState p (successorsInOrder d (states p))
+inOrder d p = everyState p (λ s. successorsInOrder d (s + 1) (states p))
 
 unfoldable pub question6 : Problem → Bool
 question6 p = inOrder (apart (p .kind)) p
+
+-- the same of a draft, whose findings may lie anywhere: without the part on their junction's number (S13.8)
+unfoldable pub question6Draft : Problem → Bool
+question6Draft p = everyState p (λ s. successorsInOrder (apart (p .kind)) 0 (states p))
 
 -- S4.7, values: is each ending's value at most its cost, and each junction's value at most the price of each of its checks?
 unfoldable pub valueUnder : Problem → List Cell → ℕ → Node → Bool
@@ -133,23 +138,28 @@ pub record Question : Type 0 where
 abbrev pub question : ℕ → (Unit {0} → Bool) → Question
 question n f = record { number = n; answer = f }
 
--- questions 5 to 8, which are put to a sheet whose fields are in place, stage by stage
-abbrev pub stateQuestions : Problem → List Cell → List Question
-stateQuestions p cells =
-    question 5 (λ _. question5 p cells)
-    ∷ question 6 (λ _. question6 p)
-    ∷ question 7 (λ _. question7 p cells)
-    ∷ question 8 (λ _. question8 p cells)
-    ∷ []
+-- questions 5 and 6, of which 6 is as it is given, and 7 and 8: they are put to a sheet whose fields are in place, stage by stage
+abbrev pub findingQuestions : Problem → List Cell → (Unit {0} → Bool) → List Question
+findingQuestions p cells six = question 5 (λ _. question5 p cells) ∷ question 6 six ∷ []
 
--- questions 2 to 4, 10 and 5 to 8, which are about the sheet alone, in the order in which they are put, under a limit of stages
-abbrev pub sheetQuestionsUnder : ℕ → List ℕ → List Question
-sheetQuestionsUnder limit s =
+abbrev pub markQuestions : Problem → List Cell → List Question
+markQuestions p cells = question 7 (λ _. question7 p cells) ∷ question 8 (λ _. question8 p cells) ∷ []
+
+abbrev pub stateQuestions : Problem → List Cell → List Question
+stateQuestions p cells = findingQuestions p cells (λ _. question6 p) ++ markQuestions p cells
+
+-- questions 2 to 4 and 10, which are about the sheet's fields, by the tag that is wanted of its head and a limit of stages
+abbrev pub fieldQuestions : ℕ → ℕ → List ℕ → List Question
+fieldQuestions wanted limit s =
     question 2 (λ _. question2 s)
-    ∷ question 3 (λ _. question3 limit s)
+    ∷ question 3 (λ _. question3 wanted limit s)
     ∷ question 4 (λ _. question4 s)
     ∷ question 10 (λ _. question10 (problemOf s))
-    ∷ stateQuestions (problemOf s) (cellsOf s)
+    ∷ []
+
+-- these of an ordinary sheet and 5 to 8, which are about the sheet alone, in the order in which they are put, under a limit of stages
+abbrev pub sheetQuestionsUnder : ℕ → List ℕ → List Question
+sheetQuestionsUnder limit s = fieldQuestions headTag limit s ++ stateQuestions (problemOf s) (cellsOf s)
 
 -- question 1 and these, of a sheet with a table of so many entries
 abbrev pub checkQuestionsUnder : ℕ → List ℕ → ℕ → List Question

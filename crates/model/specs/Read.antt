@@ -8,7 +8,7 @@ use lib.ListN.{length, getD, drop}
 use lib.Dec.{eqb, leb}
 use Rattle.model.specs.Tests.{fork, also, all}
 use Rattle.model.specs.Problem.{Kind, worst, whole, Action, action, Form, plain, counted, Node, terminal, decision}
-use Rattle.model.specs.Problem.{Problem, problem, Cell, cell}
+use Rattle.model.specs.Problem.{Problem, Cell, cell}
 use Rattle.model.specs.Limits.{maxActions}
 use Rattle.model.specs.Format.{be16, be32, terminalTag, countedTag, decisionTag, actionTag, terminalLength, decisionLength}
 use Rattle.model.specs.Format.{minActionLength, maxActionLength}
@@ -112,7 +112,13 @@ kindOf (suc b) = whole
 
 -- The problem and the cells that a sheet's bytes say.
 unfoldable pub problemOf : List ℕ → Problem
-problemOf s = problem (kindOf (getD s kindIn 0)) (be16 s startIn) (nodesRead (be16 s statesIn) (drop headSize s))
+problemOf s =
+    record {
+      head = tag s;
+      kind = kindOf (getD s kindIn 0);
+      start = be16 s startIn;
+      nodes = nodesRead (be16 s statesIn) (drop headSize s);
+    }
 
 unfoldable pub cellsOf : List ℕ → List Cell
 cellsOf s = cellsRead (be16 s statesIn) (drop headSize s)

@@ -12,6 +12,9 @@ pub const ACTION_TAG: u8 = 4;
 
 pub const COUNTED_TAG: u8 = 5;
 
+// The tag of the head of a draft, whose findings may lie anywhere.
+pub const DRAFT_TAG: u8 = 6;
+
 // Lengths of content.
 pub const HEAD_LENGTH: u32 = 5;
 

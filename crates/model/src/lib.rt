@@ -41,6 +41,8 @@ pub const RANGES: u32 = 5;
 
 pub const FINDINGS: u32 = 6;
 
+pub const CIRCLE: u32 = 11;
+
 pub const VALUES: u32 = 7;
 
 pub const MARKS: u32 = 8;

@@ -5,20 +5,23 @@ use mathlib.Core.Bool.{Bool, true, false}
 use mathlib.Core.List.{List, [], _∷_, _++_}
 use mathlib.Core.Logic.{_⊎_, inl, inr, ⊎-elim}
 use native.Mathlib.Omega.{arith}
-use borrow.Author.Tests.{le-leb, lt-leb}
+use borrow.Author.Tests.{le-leb, lt-leb, leb-true}
 use lib.ListN.{length, getD, take, drop, replicate, length-replicate}
 use Rattle.model.specs.Tests.{all, every}
 use Rattle.model.specs.Problem.{Node, terminal, Problem, Cell, states}
-use Rattle.model.specs.Format.{Bytes, be16, offsetsFrom}
+use Rattle.model.specs.Format.{Bytes, headTag, be16, offsetsFrom}
 use Rattle.model.specs.Read.{nodesGood, nodesRead, problemOf, cellsOf}
 use Rattle.model.specs.Limits.{maxStates, minBytes, maxBytes}
 use Rattle.model.specs.Questions.{question1, question2, question3, question4, countRight, question10}
-use Rattle.model.specs.Questions.{question5, question6, question7, question8, Question, question, sheetQuestionsUnder, firstNo}
+use Rattle.model.specs.Questions.{question5, question6, question6Draft, question7, question8, Question, question, findingQuestions}
+use Rattle.model.specs.Questions.{markQuestions, fieldQuestions, sheetQuestionsUnder, firstNo}
 use Rattle.model.specs.Questions.{sheetRefusal, sheetRefusalUnder}
-use Rattle.model.proofs.TestLaws.{every-first}
-use Rattle.model.proofs.QuestionLaws.{first-from}
+use Rattle.model.proofs.TestLaws.{all-true, every-first}
+use Rattle.model.proofs.QuestionLaws.{numbered, first-from, none-no, joined-no, joined-yes}
 use Rattle.model.specs.Report.{onRefusal, indexTable, refusedTable, checkedTable}
-use Rattle.layout.proofs.Heads.{head-raised}
+use Rattle.layout.specs.Shape.{Inside}
+use Rattle.layout.proofs.Shapes.{six-inside, draft-inside}
+use Rattle.layout.proofs.Heads.{head-says, head-raised}
 use Rattle.layout.proofs.Same.{read-writes, read-shaped}
 use Rattle.layout.proofs.Index.{states-read}
 use Rattle.sheet.specs.Sheet.{Within}
@@ -26,7 +29,7 @@ use Rattle.sheet.proofs.Laws.{indexed}
 use Rattle.questions.specs.declared.states.Question.the-variants.{Ranges, Findings, Values, Marks}
 use Rattle.questions.specs.declared.Verdict.{Verdict}
 use Rattle.questions.specs.declared.Verdict.the-variants.{Accepted, Refused}
-use Rattle.questions.specs.Put.{passesAt, rangesAt, statesNo, countsRight}
+use Rattle.questions.specs.Put.{passesAt, rangesAt, lowestOf, findingsBy, countsRight}
 use Rattle.questions.specs.Table.{indexedBefore, servedBy, servedRefusal, askedTable}
 use Rattle.questions.specs.Verdicts.{verdictNumber, verdict}
 
@@ -42,9 +45,10 @@ module _ (p : Problem) (cells : List Cell) where
     unfolding question5 passesAt rangesAt
     five-from h g = ap (λ (k : ℕ). every k (passesAt Ranges p cells)) (sym count) ∙ sym h ∙ g
 
-    pub six-from : r ≡ every n (passesAt Findings p cells) → r ≡ b → question6 p ≡ b
-    unfolding question6 passesAt
-    six-from h g = ap (λ (k : ℕ). every k (passesAt Findings p cells)) (sym count) ∙ sym h ∙ g
+    pub six-from : (above : Bool) → r ≡ every n (passesAt (Findings above) p cells) → r ≡ b → findingsBy above p ≡ b
+    unfolding question6 question6Draft findingsBy lowestOf passesAt
+    six-from true h g = ap (λ (k : ℕ). every k (passesAt (Findings true) p cells)) (sym count) ∙ sym h ∙ g
+    six-from false h g = ap (λ (k : ℕ). every k (passesAt (Findings false) p cells)) (sym count) ∙ sym h ∙ g
 
     pub seven-from : r ≡ every n (passesAt Values p cells) → r ≡ b → question7 p cells ≡ b
     unfolding question7 passesAt
@@ -54,37 +58,50 @@ module _ (p : Problem) (cells : List Cell) where
     unfolding question8 passesAt
     eight-from h g = ap (λ (k : ℕ). every k (passesAt Marks p cells)) (sym count) ∙ sym h ∙ g
 
-  -- the first no, by the answers up to it
-  pub no-5 : question5 p cells ≡ false → 5 ≡ statesNo p cells
-  unfolding statesNo firstNo
-  no-5 a = rw a
+  -- the first no of questions 5 and 6, and of 7 and 8, by their answers
+  module _ (six : Unit {0} → Bool) where
+    pub no-5 : question5 p cells ≡ false → 5 ≡ firstNo (findingQuestions p cells six)
+    unfolding firstNo
+    no-5 a = rw a
 
-  module _ (five : question5 p cells ≡ true) where
-    pub no-6 : question6 p ≡ false → 6 ≡ statesNo p cells
-    unfolding statesNo firstNo
-    no-6 a = rw (five, a)
+    pub no-6 : question5 p cells ≡ true → six tt ≡ false → 6 ≡ firstNo (findingQuestions p cells six)
+    unfolding firstNo
+    no-6 a b = rw (a, b)
 
-    module _ (six : question6 p ≡ true) where
-      pub no-7 : question7 p cells ≡ false → 7 ≡ statesNo p cells
-      unfolding statesNo firstNo
-      no-7 a = rw (five, six, a)
+    pub findings-yes : question5 p cells ≡ true → six tt ≡ true → 0 ≡ firstNo (findingQuestions p cells six)
+    unfolding firstNo
+    findings-yes a b = rw (a, b)
 
-      module _ (seven : question7 p cells ≡ true) where
-        pub no-8 : question8 p cells ≡ false → 8 ≡ statesNo p cells
-        unfolding statesNo firstNo
-        no-8 a = rw (five, six, seven, a)
+    -- and what their yes gives those that follow
+    pub yes-5-6 : firstNo (findingQuestions p cells six) ≡ 0 → (question5 p cells ≡ true) × (six tt ≡ true)
+    yes-5-6 none = let (five, (six, _)) = none-no (findingQuestions p cells six) refl none in (five, six)
 
-        pub no-none : question8 p cells ≡ true → 0 ≡ statesNo p cells
-        unfolding statesNo firstNo
-        no-none a = rw (five, six, seven, a)
+  pub no-7 : question7 p cells ≡ false → 7 ≡ firstNo (markQuestions p cells)
+  unfolding firstNo
+  no-7 a = rw a
 
-module _ (limit : ℕ) (s : List ℕ) where
-  pub too-short : length s < minBytes → 2 ≡ firstNo (sheetQuestionsUnder limit s)
+  pub no-8 : question7 p cells ≡ true → question8 p cells ≡ false → 8 ≡ firstNo (markQuestions p cells)
+  unfolding firstNo
+  no-8 a b = rw (a, b)
+
+  pub marks-yes : question7 p cells ≡ true → question8 p cells ≡ true → 0 ≡ firstNo (markQuestions p cells)
+  unfolding firstNo
+  marks-yes a b = rw (a, b)
+
+-- findings in order are stages, whether or not they have to be above their junction
+pub findings-inside : (above : Bool) (p : Problem) → findingsBy above p ≡ true → Inside p
+unfolding findingsBy
+findings-inside true p h = six-inside p h
+findings-inside false p h = draft-inside p h
+
+-- questions 2 to 4 and 10, by the tag that is wanted of the head and a limit of states
+module _ (wanted limit : ℕ) (s : List ℕ) where
+  pub too-short : length s < minBytes → 2 ≡ firstNo (fieldQuestions wanted limit s)
   unfolding firstNo question2 all
   too-short h = rw (lt-leb minBytes (length s) h)
 
   module _ (ge : minBytes ≤ length s) where
-    pub too-long : maxBytes < length s → 2 ≡ firstNo (sheetQuestionsUnder limit s)
+    pub too-long : maxBytes < length s → 2 ≡ firstNo (fieldQuestions wanted limit s)
     unfolding firstNo question2 all
     too-long h = rw (le-leb minBytes (length s) ge, lt-leb (length s) maxBytes h)
 
@@ -93,12 +110,12 @@ module _ (limit : ℕ) (s : List ℕ) where
       unfolding question2 all
       two = rw (le-leb minBytes (length s) ge, le-leb (length s) maxBytes le)
 
-      pub no-3 : question3 limit s ≡ false → 3 ≡ firstNo (sheetQuestionsUnder limit s)
+      pub no-3 : question3 wanted limit s ≡ false → 3 ≡ firstNo (fieldQuestions wanted limit s)
       unfolding firstNo
       no-3 h = rw (two, h)
 
-      module _ (head : question3 limit s ≡ true) (n : ℕ) (count : n ≡ be16 s 4) where
-        pub no-4 : nodesGood n (drop 8 s) ≡ false → 4 ≡ firstNo (sheetQuestionsUnder limit s)
+      module _ (head : question3 wanted limit s ≡ true) (n : ℕ) (count : n ≡ be16 s 4) where
+        pub no-4 : nodesGood n (drop 8 s) ≡ false → 4 ≡ firstNo (fieldQuestions wanted limit s)
         unfolding firstNo question4
         no-4 h = rw (two, head, ← count, h)
 
@@ -108,16 +125,15 @@ unfolding countsRight every
 counts-all [] = refl
 counts-all (n ∷ ns) = every-first (length ns) (λ i. countRight (getD (n ∷ ns) i (terminal 0))) ∙ rw (counts-all ns)
 
--- A sheet of a right length whose head is in place under a limit of states, as are its n states.
-pub record Laid (limit : ℕ) (s : List ℕ) (n : ℕ) : Type 0 where
+-- A sheet of a right length whose head is in place, by the tag that is wanted and a limit of states, as are its n states.
+pub record Laid (wanted limit : ℕ) (s : List ℕ) (n : ℕ) : Type 0 where
   pub least : minBytes ≤ length s
   pub most : length s ≤ maxBytes
-  pub within : limit ≤ maxStates
-  pub head : question3 limit s ≡ true
+  pub head : question3 wanted limit s ≡ true
   pub count : n ≡ be16 s 4
   pub good : nodesGood n (drop 8 s) ≡ true
 
-module _ {limit : ℕ} {s : List ℕ} {n : ℕ} (h : Laid limit s n) where
+module _ {wanted limit : ℕ} {s : List ℕ} {n : ℕ} (h : Laid wanted limit s n) where
   in-place : question4 s ≡ true
   unfolding question4
   in-place = rw (← h .count) (h .good)
@@ -127,35 +143,50 @@ module _ {limit : ℕ} {s : List ℕ} {n : ℕ} (h : Laid limit s n) where
   unfolding question10 problemOf
   ten r b is e = counts-all (problemOf s .nodes) ∙ rw (h .count) at (sym is) ∙ e
 
-  pub no-10 : (r : Bool) → r ≡ countsRight (nodesRead n (drop 8 s)) → r ≡ false → 10 ≡ firstNo (sheetQuestionsUnder limit s)
+  pub no-10 : (r : Bool) → r ≡ countsRight (nodesRead n (drop 8 s)) → r ≡ false → 10 ≡ firstNo (fieldQuestions wanted limit s)
   unfolding firstNo
-  no-10 r is e = rw (two limit s (h .least) (h .most), h .head, in-place, ten r false is e)
+  no-10 r is e = rw (two wanted limit s (h .least) (h .most), h .head, in-place, ten r false is e)
 
-  -- questions 5 to 8 are left
-  pub then-states : (r : Bool) → r ≡ countsRight (nodesRead n (drop 8 s)) → r ≡ true →
-      firstNo (sheetQuestionsUnder limit s) ≡ statesNo (problemOf s) (cellsOf s)
-  unfolding firstNo statesNo
-  then-states r is e = rw (two limit s (h .least) (h .most), h .head, in-place, ten r true is e)
+  pub fields-yes : (r : Bool) → r ≡ countsRight (nodesRead n (drop 8 s)) → r ≡ true → 0 ≡ firstNo (fieldQuestions wanted limit s)
+  unfolding firstNo
+  fields-yes r is e = rw (two wanted limit s (h .least) (h .most), h .head, in-place, ten r true is e)
 
-  -- n and the nodes read are those of its problem
-  pub states-are : n ≡ states (problemOf s)
-  states-are = h .count ∙ sym (states-read s)
-
+  -- the nodes read are those of its problem, and so is the table
   nodes-are : nodesRead n (drop 8 s) ≡ problemOf s .nodes
   unfolding problemOf
   nodes-are = rw (h .count)
 
-  -- a table that begins with the offsets makes a sheet, which has a state
-  pub zero-within : Bytes s → (t rest : List ℕ) → t ≡ offsetsFrom 8 (nodesRead n (drop 8 s)) ++ rest → (0 < n) × Within s t 0
-  zero-within byte t rest e =
-      let head = head-raised (h .within) s (h .head) in
-      let shaped = read-shaped s byte head in-place in
-      let some : 0 < n = omega (arith, shaped .some, states-are) in
-      (some, record { sheet = indexed rest (read-writes s byte head in-place) shaped (e ∙ rw nodes-are); below = shaped .some })
-
-  -- the table by its problem
   pub table-is : (t rest : List ℕ) → t ≡ offsetsFrom 8 (nodesRead n (drop 8 s)) ++ drop n rest → t ≡ indexedBefore s rest
-  table-is t rest e = e ∙ rw (nodes-are, states-are)
+  table-is t rest e = e ∙ rw (nodes-are, h .count ∙ sym (states-read s))
+
+-- Bytes with a yes to questions 2 to 4 and 10, and a table that begins with the offsets: a sheet, which has a state.
+pub record Fielded (s t : List ℕ) : Type 0 where
+  pub long : 8 ≤ length s
+  pub fits : length s ≤ maxBytes
+  pub some : 0 < states (problemOf s)
+  pub within : Within s t 0
+
+pub fielded : (wanted limit : ℕ) (s t rest : List ℕ) → limit ≤ maxStates → Bytes s → firstNo (fieldQuestions wanted limit s) ≡ 0 →
+    t ≡ indexedBefore s rest → Fielded s t
+unfolding question2
+fielded wanted limit s t rest le byte none e =
+    let (two, (three, (four, _))) = none-no (fieldQuestions wanted limit s) refl none in
+    let head = head-raised wanted le s three in
+    let shaped = read-shaped wanted s byte head four in
+    record {
+      long = head-says s three .2;
+      fits = leb-true (length s) maxBytes (all-true _ two .1 .0);
+      some = shaped .some;
+      within = record { sheet = indexed _ (read-writes wanted s byte head four) shaped e; below = shaped .some };
+    }
+
+-- Questions put one list after the other, by the number r of the first no of the first list.
+module _ (asked more : List Question) (m : numbered 1 asked ≡ true) (r : ℕ) (is : r ≡ firstNo asked) where
+  pub then-more : r ≡ 0 → firstNo (asked ++ more) ≡ firstNo more
+  then-more none = joined-yes asked more (none-no asked m (sym is ∙ none))
+
+  pub first-of : (r ≡ 0 → ⊥) → r ≡ firstNo (asked ++ more)
+  first-of some = is ∙ sym (joined-no asked more (λ z. some (is ∙ z)))
 
 -- the table t once it is cleared: all zeros
 abbrev pub cleared : List ℕ → List ℕ

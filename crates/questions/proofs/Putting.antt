@@ -9,18 +9,19 @@ use lib.ListN.{length}
 use Rattle.model.proofs.TestLaws.{all-true, every-true}
 use Rattle.model.specs.Problem.{Node, terminal, decision, Problem, Cell, states, nodeAt, cellOf, solved}
 use Rattle.model.specs.Format.{actionsOf}
-use Rattle.model.specs.Questions.{chosenInRange, cellInRange, question5, question6}
+use Rattle.model.specs.Questions.{chosenInRange, cellInRange, question5}
+use Rattle.layout.specs.Shape.{Inside}
 use Rattle.questions.specs.declared.states.Question.{Question}
 use Rattle.questions.specs.declared.states.Question.the-variants.{Values, Marks}
 use Rattle.questions.specs.Put.{ChosenExists, Before}
 
 module _ (p : Problem) (cells : List Cell) (question : Question) (before : Before question p cells) where
-  -- questions 7 and 8 suppose a yes to question 6
-  pub bounds-ordered : question ≡ Values → question6 p ≡ true
-  bounds-ordered e = subst (λ (x : Question). Before x p cells) e before
+  -- questions 7 and 8 suppose that successors are states
+  pub bounds-inside : question ≡ Values → Inside p
+  bounds-inside e = subst (λ (x : Question). Before x p cells) e before
 
-  pub marks-ordered : question ≡ Marks → question6 p ≡ true
-  marks-ordered e = subst (λ (x : Question). Before x p cells) e before .1
+  pub marks-inside : question ≡ Marks → Inside p
+  marks-inside e = subst (λ (x : Question). Before x p cells) e before .1
 
   -- question 5 gives that a solved decision's chosen action exists
   pub marks-chosen : question ≡ Marks → (s : ℕ) → s < states p → solved (cellOf cells s) ≡ true → ChosenExists p cells s

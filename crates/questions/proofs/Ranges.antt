@@ -14,7 +14,8 @@ use Rattle.model.specs.Format.{actionsOf, formOf, actionOffset}
 use Rattle.model.specs.Read.{actionRead, problemOf, cellsOf}
 use Rattle.model.specs.Limits.{ceiling, maxActions, maxCost}
 use Rattle.model.specs.QValue.{q}
-use Rattle.model.specs.Questions.{costsInRange, chosenInRange, cellInRange, question6, allSolved, passedBy, markEarned}
+use Rattle.model.specs.Questions.{costsInRange, chosenInRange, cellInRange, allSolved, passedBy, markEarned}
+use Rattle.layout.specs.Shape.{Inside}
 use Rattle.sheet.specs.Sheet.{Terminal, Decision, Priced, terminalCost}
 use Rattle.sheet.proofs.Laws.{actionsAt, is-terminal}
 use Rattle.questions.specs.Put.{rangesAt, countInRange, ChosenExists}
@@ -126,8 +127,8 @@ module _ {s t : List ℕ} {i : ℕ} (d : Decision s t i) (some : 0 < length (act
     along : Along s i (cellOf (cellsOf s) i .chosen) o
     along = record { upto = omega (arith, chosen-below); at = at }
 
-    pub chosen-priced : question6 (problemOf s) ≡ true → Priced s t o
-    chosen-priced six = along-priced d along chosen-below six
+    pub chosen-priced : Inside (problemOf s) → Priced s t o
+    chosen-priced inside = along-priced d along chosen-below inside
 
     module _ {value price : ℕ} (v : value ≡ valueOf (cellsOf s) i)
         (x : price ≡ q (problemOf s .kind) (valueOf (cellsOf s)) (actionRead (drop o s))) where

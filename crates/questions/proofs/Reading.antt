@@ -449,42 +449,42 @@ pub cleared-all : (t₀ t : List ℕ) (from i : ℕ) → length t ≤ i → i �
     take i t ≡ take from t₀ ++ replicate (i - from) 0 → t ≡ take from t₀ ++ replicate (length t₀ - from) 0
 cleared-all t₀ t from i ge le long h = let e : i - from ≡ length t₀ - from = omega arith in sym (take-all i t ge) ∙ h ∙ rw e
 
--- question 3 under a limit of states, by the first test that fails
-module _ (limit : ℕ) (s : List ℕ) (le : 8 ≤ length s) where
-  pub head-tag : (getD s 0 0 ≡ 1 → ⊥) → false ≡ question3 limit s
+-- question 3 by the tag that is wanted and a limit of states, by the first test that fails
+module _ (wanted limit : ℕ) (s : List ℕ) (le : 8 ≤ length s) where
+  pub head-tag : (getD s 0 0 ≡ wanted → ⊥) → false ≡ question3 wanted limit s
   unfolding question3 all
-  head-tag h = rw (ne-eqb (getD s 0 0) 1 h)
+  head-tag h = rw (ne-eqb (getD s 0 0) wanted h)
 
-  module _ (one : getD s 0 0 ≡ 1) where
-    pub head-length : (be16 s 1 ≡ 5 → ⊥) → false ≡ question3 limit s
+  module _ (same : getD s 0 0 ≡ wanted) where
+    pub head-length : (be16 s 1 ≡ 5 → ⊥) → false ≡ question3 wanted limit s
     unfolding question3 all
-    head-length h = rw (eq-eqb (getD s 0 0) 1 one, ne-eqb (be16 s 1) 5 h)
+    head-length h = rw (eq-eqb (getD s 0 0) wanted same, ne-eqb (be16 s 1) 5 h)
 
     module _ (five : be16 s 1 ≡ 5) where
-      pub head-kind : 1 < getD s 3 0 → false ≡ question3 limit s
+      pub head-kind : 1 < getD s 3 0 → false ≡ question3 wanted limit s
       unfolding question3 all
-      head-kind h = rw (eq-eqb (getD s 0 0) 1 one, eq-eqb (be16 s 1) 5 five, le-leb 8 (length s) le, lt-leb (getD s 3 0) 1 h)
+      head-kind h = rw (eq-eqb (getD s 0 0) wanted same, eq-eqb (be16 s 1) 5 five, le-leb 8 (length s) le, lt-leb (getD s 3 0) 1 h)
 
       module _ (kind : getD s 3 0 ≤ 1) where
-        pub head-none : be16 s 4 < 1 → false ≡ question3 limit s
+        pub head-none : be16 s 4 < 1 → false ≡ question3 wanted limit s
         unfolding question3 all
         head-none h =
             let kinds = le-leb (getD s 3 0) 1 kind in
-            rw (eq-eqb (getD s 0 0) 1 one, eq-eqb (be16 s 1) 5 five, le-leb 8 (length s) le, kinds, lt-leb 1 (be16 s 4) h)
+            rw (eq-eqb (getD s 0 0) wanted same, eq-eqb (be16 s 1) 5 five, le-leb 8 (length s) le, kinds, lt-leb 1 (be16 s 4) h)
 
         module _ (some : 1 ≤ be16 s 4) where
-          pub head-many : limit < be16 s 4 → false ≡ question3 limit s
+          pub head-many : limit < be16 s 4 → false ≡ question3 wanted limit s
           unfolding question3 all
           head-many h =
               let kinds = le-leb (getD s 3 0) 1 kind in
               let least = le-leb 1 (be16 s 4) some in
               let most = lt-leb (be16 s 4) limit h in
-              rw (eq-eqb (getD s 0 0) 1 one, eq-eqb (be16 s 1) 5 five, le-leb 8 (length s) le, kinds, least, most)
+              rw (eq-eqb (getD s 0 0) wanted same, eq-eqb (be16 s 1) 5 five, le-leb 8 (length s) le, kinds, least, most)
 
-          pub head-start : be16 s 4 ≤ limit → ltb (be16 s 6) (be16 s 4) ≡ question3 limit s
+          pub head-start : be16 s 4 ≤ limit → ltb (be16 s 6) (be16 s 4) ≡ question3 wanted limit s
           unfolding question3 all
           head-start h =
               let kinds = le-leb (getD s 3 0) 1 kind in
               let least = le-leb 1 (be16 s 4) some in
               let most = le-leb (be16 s 4) limit h in
-              rw (eq-eqb (getD s 0 0) 1 one, eq-eqb (be16 s 1) 5 five, le-leb 8 (length s) le, kinds, least, most) (sym (all-one _))
+              rw (eq-eqb (getD s 0 0) wanted same, eq-eqb (be16 s 1) 5 five, le-leb 8 (length s) le, kinds, least, most) (sym (all-one _))

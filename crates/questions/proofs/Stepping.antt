@@ -17,9 +17,10 @@ use Rattle.model.specs.Format.{terminalTag, formOf, actionTag, tagOf, actionsOf
 use Rattle.model.specs.Read.{actionFits, actionRead, problemOf, cellsOf}
 use Rattle.model.specs.QValue.{q}
 use Rattle.model.specs.Limits.{maxCost, maxActions, noPlan}
-use Rattle.model.specs.Questions.{costsInRange, apart, ascending, successorsInOrder, question6, valueUnder, allSolved, passedBy}
+use Rattle.model.specs.Questions.{costsInRange, apart, ascending, successorsInOrder, valueUnder, allSolved, passedBy}
 use Rattle.model.specs.Questions.{markEarned}
-use Rattle.layout.proofs.Shapes.{member, ascending-in}
+use Rattle.layout.specs.Shape.{Inside}
+use Rattle.layout.proofs.Shapes.{member}
 use Rattle.sheet.specs.Sheet.{Sheet, Within, Terminal, Decision, Priced, terminalCost, ofKind}
 use Rattle.sheet.proofs.Joining.{of-worst, of-whole}
 use Rattle.sheet.proofs.Laws.{actionsAt, is-terminal, is-decision, few-actions, action-stands, action-ends}
@@ -43,8 +44,8 @@ module _ (n : ℕ) (f : ℕ → Bool) (b : Bool) (is : b ≡ every n f) where
 abbrev pub costOfFits : Problem → ℕ → ℕ → Bool
 costOfFits p s k = all (leb 1 (actionAt (actionsAt p s) k .cost) ∷ leb (actionAt (actionsAt p s) k .cost) maxCost ∷ [])
 
-abbrev pub orderOf : Problem → ℕ → ℕ → ℕ → ℕ → Bool
-orderOf p d n s k = ascending d (s + 1) n (actionAt (actionsAt p s) k .successors)
+abbrev pub orderOf : Problem → ℕ → ℕ → ℕ → ℕ → ℕ → Bool
+orderOf p d low n s k = ascending d low n (actionAt (actionsAt p s) k .successors)
 
 abbrev pub priceOver : Problem → List Cell → ℕ → ℕ → Bool
 priceOver p cells s k = leb (valueOf cells s) (q (p .kind) (valueOf cells) (actionAt (actionsAt p s) k))
@@ -58,9 +59,9 @@ module _ (p : Problem) (s : ℕ) (tag : tagOf (nodeAt p s) ≡ terminalTag → �
   unfolding costsInRange actionsOf
   costs-are = rw node
 
-  pub order-is : (d n : ℕ) → successorsInOrder d n s (nodeAt p s) ≡ every (length (actionsAt p s)) (orderOf p d n s)
+  pub order-is : (d low n : ℕ) → successorsInOrder d low n (nodeAt p s) ≡ every (length (actionsAt p s)) (orderOf p d low n s)
   unfolding successorsInOrder actionsOf
-  order-is d n = rw node
+  order-is d low n = rw node
 
   pub under-is : (cells : List Cell) → valueUnder p cells s (nodeAt p s) ≡ every (length (actionsAt p s)) (priceOver p cells s)
   unfolding valueUnder actionsOf
@@ -150,14 +151,11 @@ pub cost-fits : (c : ℕ) → 1 ≤ c → c ≤ maxCost → all (leb 1 c ∷ leb
 unfolding all
 cost-fits c g h = rw (le-leb 1 c g, le-leb c maxCost h)
 
--- question 6 gives that successors are states
-below : (p : Problem) (s : ℕ) → s < states p → (tagOf (nodeAt p s) ≡ terminalTag → ⊥) → question6 p ≡ true →
-    (k : ℕ) → k < length (actionsAt p s) → (j : ℕ) → j < length (actionAt (actionsAt p s) k .successors) →
+-- successors by their places, where they are states
+below : (p : Problem) (s : ℕ) → (tagOf (nodeAt p s) ≡ terminalTag → ⊥) → Inside p →
+    (k : ℕ) → (j : ℕ) → j < length (actionAt (actionsAt p s) k .successors) →
     getD (actionAt (actionsAt p s) k .successors) j 0 < states p
-unfolding question6
-below p s lt tag h k lk j lj =
-    let ordered = sym (order-is p s tag (apart (p .kind)) (states p)) ∙ every-true (states p) _ h s lt in
-    ascending-in (apart (p .kind)) (s + 1) (states p) _ (every-true _ _ ordered k lk) _ (member _ j lj) .1
+below p s tag inside k j lj = inside s k _ (formOf (nodeAt p s)) (actionsAt p s) (node p s tag) (member _ j lj)
 
 -- A loop over the actions of decision i: action k stands at o.
 pub record Along (s : List ℕ) (i k o : ℕ) : Type 0 where
@@ -192,11 +190,9 @@ module _ {s t : List ℕ} {i : ℕ} (d : Decision s t i) where
       pub along-next : (r : ℕ) → r ≡ o + 7 + 2 * length (actionRead (drop o s) .successors) → Along s i (k + 1) r
       along-next r e = record { upto = omega arith; at = action-after h i (d .within .below) (d .tag) k o (a .at) lk r e }
 
-      -- in an ordered sheet its successors are states
-      pub along-priced : question6 (problemOf s) ≡ true → Priced s t o
-      along-priced six =
-          let lt = d .within .below in
-          action-priced h i lt (d .tag) k o (a .at) lk (below (problemOf s) i lt (d .tag) six k lk)
+      -- it can be priced where successors are states
+      pub along-priced : Inside (problemOf s) → Priced s t o
+      along-priced inside = action-priced h i (d .within .below) (d .tag) k o (a .at) lk (below (problemOf s) i (d .tag) inside k)
 
   -- the count, from the test of all costs
   pub counted-all : (k : ℕ) → every k (costOfFits (problemOf s) i) ≡ true →
@@ -236,10 +232,10 @@ module _ {s t : List ℕ} {i k o : ℕ} (d : Decision s t i) (a : Along s i k o)
   price-under le = le-leb _ _ (rw (v, priced) at le)
 
 -- question 6 at a terminal
-pub order-terminal : {s t : List ℕ} {i : ℕ} → Terminal s t i → (d n : ℕ) →
-    true ≡ successorsInOrder d n i (nodeAt (problemOf s) i)
+pub order-terminal : {s t : List ℕ} {i : ℕ} → Terminal s t i → (d low n : ℕ) →
+    true ≡ successorsInOrder d low n (nodeAt (problemOf s) i)
 unfolding successorsInOrder
-order-terminal {s} {t} {i} h d n = rw (is-terminal (nodeAt (problemOf s) i) (h .tag))
+order-terminal {s} {t} {i} h d low n = rw (is-terminal (nodeAt (problemOf s) i) (h .tag))
 
 -- how far apart successors are, at the least, by the byte of a sheet's kind
 apart-of : (k : Kind) → apart k ≡ ofKind k 1 0
@@ -255,9 +251,9 @@ whole-apart s ne = apart-of (problemOf s .kind) ∙ sym (of-whole s 1 0 ne)
 
 -- questions 6 and 7 of a decision
 module _ {s t : List ℕ} {i : ℕ} (d : Decision s t i) where
-  pub order-of : (e n : ℕ) →
-      successorsInOrder e n i (nodeAt (problemOf s) i) ≡ every (length (actionsAt (problemOf s) i)) (orderOf (problemOf s) e n i)
-  order-of e n = order-is (problemOf s) i (d .tag) e n
+  pub order-of : (e low n : ℕ) →
+      successorsInOrder e low n (nodeAt (problemOf s) i) ≡ every (length (actionsAt (problemOf s) i)) (orderOf (problemOf s) e low n i)
+  order-of e low n = order-is (problemOf s) i (d .tag) e low n
 
   pub under-of : valueUnder (problemOf s) (cellsOf s) i (nodeAt (problemOf s) i) ≡
       every (length (actionsAt (problemOf s) i)) (priceOver (problemOf s) (cellsOf s) i)

@@ -1,7 +1,7 @@
 -- Questions 5 to 8 of one state, and what each may suppose of the questions before it; what reading the fields gives.
-use Prim.Native.Nat.{ℕ, suc, _<_}
+use Prim.Native.Nat.{ℕ, suc, _+_, _<_}
 use mathlib.Core.Path.{_≡_}
-use mathlib.Core.Bool.{Bool, true}
+use mathlib.Core.Bool.{Bool, true, false}
 use mathlib.Core.List.{List, [], _∷_}
 use lib.ListN.{length}
 use Rattle.model.specs.Tests.{fork, also, all}
@@ -10,7 +10,8 @@ use Rattle.model.specs.Format.{decisionSize, actionsOf}
 use Rattle.model.specs.Limits.{maxActions}
 use Rattle.model.specs.Read.{fieldSize, actionFits, formRead, headerFits}
 use Rattle.model.specs.Questions.{countRight, costsInRange, cellInRange, apart, successorsInOrder, valueUnder, markEarned}
-use Rattle.model.specs.Questions.{question5, question6, stateQuestions, firstNo}
+use Rattle.model.specs.Questions.{question5, question6, question6Draft}
+use Rattle.layout.specs.Shape.{Inside}
 use Rattle.questions.specs.declared.states.Question.{Question}
 use Rattle.questions.specs.declared.states.Question.the-variants.{Ranges, Findings, Values, Marks}
 
@@ -29,20 +30,26 @@ ChosenExists p cells s = 0 < length (actionsOf (nodeAt p s)) → cellOf cells s 
 -- what a question may suppose
 abbrev pub Before : Question → Problem → List Cell → Type 0
 Before Ranges p cells = Unit {0}
-Before Findings p cells = Unit {0}
-Before Values p cells = question6 p ≡ true
-Before Marks p cells = (question5 p cells ≡ true) × (question6 p ≡ true)
+Before (Findings above) p cells = Unit {0}
+Before Values p cells = Inside p
+Before Marks p cells = (question5 p cells ≡ true) × Inside p
+
+-- the lowest number that a successor of state s may have: above its own, or, where that is not asked, any
+unfoldable pub lowestOf : Bool → ℕ → ℕ
+lowestOf true s = s + 1
+lowestOf false s = 0
+
+-- question 6, of an ordinary sheet and of a draft: is it asked that successors are above their decision?
+unfoldable pub findingsBy : Bool → Problem → Bool
+findingsBy true p = question6 p
+findingsBy false p = question6Draft p
 
 -- a question of state s
 unfoldable pub passesAt : Question → Problem → List Cell → ℕ → Bool
 passesAt Ranges p cells s = rangesAt (nodeAt p s) (cellOf cells s)
-passesAt Findings p cells s = successorsInOrder (apart (p .kind)) (states p) s (nodeAt p s)
+passesAt (Findings above) p cells s = successorsInOrder (apart (p .kind)) (lowestOf above s) (states p) (nodeAt p s)
 passesAt Values p cells s = valueUnder p cells s (nodeAt p s)
 passesAt Marks p cells s = fork (solved (cellOf cells s)) (λ _. markEarned p cells s (nodeAt p s)) (λ _. true)
-
--- the number of the first of questions 5 to 8 whose answer is no, 0 where there is none
-unfoldable pub statesNo : Problem → List Cell → ℕ
-statesNo p cells = firstNo (stateQuestions p cells)
 
 -- the length of an action's field, of the bytes that it begins: 0 where it does not fit
 unfoldable pub fieldLength : List ℕ → ℕ

@@ -3,16 +3,20 @@ mod fields; // fields.rt: questions 4 and 10
 pub mod states; // states.rt: questions 5 to 8
 
 ghost use mathlib.Core.Path.{_≡_};
+ghost use mathlib.Core.Bool.{true};
 ghost use mathlib.Core.List.{_++_};
 ghost use Prim.Native.Nat.{_-_, _<_, _≤_};
 ghost use lib.ListN.{length, take, replicate};
 ghost use Rattle.model.specs.Problem.{states};
+ghost use Rattle.model.specs.Format.{headSize};
 ghost use Rattle.model.specs.Read.{problemOf, cellsOf};
 ghost use Rattle.model.specs.Limits.{maxStates};
-ghost use Rattle.model.specs.Questions.{question3, sheetQuestionsUnder, firstNo, sheetRefusal};
+ghost use Rattle.model.specs.Questions.{question3, question5, findingQuestions, markQuestions, stateQuestions, fieldQuestions};
+ghost use Rattle.model.specs.Questions.{sheetQuestionsUnder, firstNo, sheetRefusal};
+ghost use Rattle.layout.specs.Shape.{Inside};
 ghost use Rattle.model.specs.Report.{checkedTable};
 ghost use Rattle.sheet.specs.Sheet.{Within};
-ghost use Rattle.questions.specs.Put.{statesNo};
+ghost use Rattle.questions.specs.Put.{findingsBy};
 ghost use Rattle.questions.specs.Table.{indexedBefore, servedBy, servedRefusal, askedTable};
 ghost use Rattle.questions.specs.Verdicts.{verdict};
 use fields::read_fields;
@@ -40,12 +44,13 @@ pub enum Verdict {
     Refused(u32),
 }
 
-// Question 3 (S4.3) under a limit of states: is the head in place, with its kind, its number of states and its start in their ranges?
-fn head_in_place(s: &[u8], limit: usize) -> bool
+// Question 3 (S4.3) under a limit of states: is the head in place, with the tag that is wanted, and its kind, its number of states and its
+// start in their ranges?
+fn head_in_place(s: &[u8], wanted: u8, limit: usize) -> bool
     requires { ⌜ 8 ≤ length (now s) ⌝ }
-    ensures { λ r. ⌜ r ≡ question3 limit (now (s .entry)) ⌝ }
+    ensures { λ r. ⌜ r ≡ question3 wanted limit (now (s .entry)) ⌝ }
 {
-    if s[0] == format::HEAD_TAG {
+    if s[0] == wanted {
         if get16(s, format::LENGTH_IN) == format::HEAD_LENGTH {
             if s[format::KIND_IN] > format::WHOLE {
                 return false;
@@ -66,29 +71,89 @@ fn head_in_place(s: &[u8], limit: usize) -> bool
     }
 }
 
-// Questions 5 to 8 of a sheet that is in place: the number of the first whose answer is no, 0 where there is none.
-fn states_no(sheet: &[u8], table: &[u32], n: usize) -> u32
+// Questions 5 and 6 of a sheet that is in place: the number of the first whose answer is no, 0 where there is none. It is asked that
+// findings are above their junction, unless the sheet is a draft.
+pub fn findings_no(sheet: &[u8], table: &[u32], n: usize, above: bool) -> u32
     requires { ⌜ (0 < n) × Within (now sheet) (now table) 0 ⌝ }
     requires { ⌜ n ≡ states (problemOf (now sheet)) ⌝ }
-    ensures { λ r. ⌜ r ≡ statesNo (problemOf (now (sheet .entry))) (cellsOf (now (sheet .entry))) ⌝ }
+    ensures { λ r. ⌜ r ≡ firstNo (findingQuestions (problemOf (now (sheet .entry))) (cellsOf (now (sheet .entry)))
+        (λ _. findingsBy above (problemOf (now (sheet .entry))))) ⌝ }
 {
     if all_pass(sheet, table, n, Question::Ranges) {
-        if all_pass(sheet, table, n, Question::Findings) {
-            if all_pass(sheet, table, n, Question::Values) {
-                if all_pass(sheet, table, n, Question::Marks) {
-                    0
-                } else {
-                    MARKS
-                }
-            } else {
-                VALUES
-            }
+        if all_pass(sheet, table, n, Question::Findings(above)) {
+            0
         } else {
             FINDINGS
         }
     } else {
         RANGES
     }
+}
+
+// Questions 7 and 8 of a sheet whose costs and marks are in range and whose findings are stages, likewise.
+pub fn marks_no(sheet: &[u8], table: &[u32], n: usize) -> u32
+    requires { ⌜ (0 < n) × Within (now sheet) (now table) 0 ⌝ }
+    requires { ⌜ n ≡ states (problemOf (now sheet)) ⌝ }
+    requires { ⌜ Inside (problemOf (now sheet)) × (question5 (problemOf (now sheet)) (cellsOf (now sheet)) ≡ true) ⌝ }
+    ensures { λ r. ⌜ r ≡ firstNo (markQuestions (problemOf (now (sheet .entry))) (cellsOf (now (sheet .entry)))) ⌝ }
+{
+    if all_pass(sheet, table, n, Question::Values) {
+        if all_pass(sheet, table, n, Question::Marks) {
+            0
+        } else {
+            MARKS
+        }
+    } else {
+        VALUES
+    }
+}
+
+// Questions 5 to 8 of an ordinary sheet that is in place, likewise.
+fn states_no(sheet: &[u8], table: &[u32], n: usize) -> u32
+    requires { ⌜ (0 < n) × Within (now sheet) (now table) 0 ⌝ }
+    requires { ⌜ n ≡ states (problemOf (now sheet)) ⌝ }
+    ensures { λ r. ⌜ r ≡ firstNo (stateQuestions (problemOf (now (sheet .entry))) (cellsOf (now (sheet .entry)))) ⌝ }
+{
+    let no = findings_no(sheet, table, n, true);
+    if no == 0 {
+        marks_no(sheet, table, n)
+    } else {
+        no
+    }
+}
+
+// The questions about the sheet's fields, by the tag that is wanted of its head and a limit of states: the number of the first whose answer
+// is no, 0 where there is none; then the table begins with the states' offsets.
+pub fn fields_no(sheet: &[u8], table: &mut [u32], wanted: u8, limit: usize) -> u32
+    requires { ⌜ (limit ≤ length (now table)) × (limit ≤ maxStates) ⌝ }
+    ensures { λ r. ⌜ r ≡ firstNo (fieldQuestions wanted limit (now (sheet .entry))) ⌝ }
+    ensures { λ r. ⌜ (r ≡ 0 → now (table .exit) ≡ indexedBefore (now (sheet .entry)) (now (table .entry))) ⌝ }
+{
+    if sheet.len() < MIN_BYTES {
+        return SIZE;
+    }
+    if sheet.len() > MAX_BYTES {
+        return SIZE;
+    }
+    if head_in_place(sheet, wanted, limit) {
+        let n = word_to_index(get16(sheet, format::STATES_IN));
+        let f = read_fields(sheet, table, n);
+        if f.in_place {
+            if f.counts { 0 } else { COUNT }
+        } else {
+            FIELDS
+        }
+    } else {
+        HEAD
+    }
+}
+
+// The number of states of a sheet that is in place.
+pub fn count_of(sheet: &[u8]) -> usize
+    requires { ⌜ headSize ≤ length (now sheet) ⌝ }
+    ensures { λ r. ⌜ (r ≡ states (problemOf (now (sheet .entry)))) × (r < 65536) ⌝ }
+{
+    word_to_index(get16(sheet, format::STATES_IN))
 }
 
 // The questions about the sheet alone, under a limit of states: the number of the first whose answer is no, 0 where there is none; then the
@@ -98,26 +163,12 @@ fn first_no(sheet: &[u8], table: &mut [u32], limit: usize) -> u32
     ensures { λ r. ⌜ r ≡ firstNo (sheetQuestionsUnder limit (now (sheet .entry))) ⌝ }
     ensures { λ r. ⌜ (r ≡ 0 → now (table .exit) ≡ indexedBefore (now (sheet .entry)) (now (table .entry))) ⌝ }
 {
-    if sheet.len() < MIN_BYTES {
-        return SIZE;
-    }
-    if sheet.len() > MAX_BYTES {
-        return SIZE;
-    }
-    if head_in_place(sheet, limit) {
-        let n = word_to_index(get16(sheet, format::STATES_IN));
-        let f = read_fields(sheet, table, n);
-        if f.in_place {
-            if f.counts {
-                states_no(sheet, table, n)
-            } else {
-                COUNT
-            }
-        } else {
-            FIELDS
-        }
+    let no = fields_no(sheet, table, format::HEAD_TAG, limit);
+    if no == 0 {
+        let n = count_of(sheet);
+        states_no(sheet, table, n)
     } else {
-        HEAD
+        no
     }
 }
 

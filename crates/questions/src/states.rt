@@ -7,9 +7,10 @@ ghost use Rattle.model.specs.Tests.{every};
 ghost use Rattle.model.specs.Problem.{nodeAt, cellOf, states};
 ghost use Rattle.model.specs.Format.{actionsOf, actionOffset};
 ghost use Rattle.model.specs.Read.{problemOf, cellsOf, actionFits, actionRead};
-ghost use Rattle.model.specs.Questions.{apart, ascending, successorsInOrder, valueUnder, allSolved, markEarned, question6};
+ghost use Rattle.model.specs.Questions.{apart, ascending, successorsInOrder, valueUnder, allSolved, markEarned};
+ghost use Rattle.layout.specs.Shape.{Inside};
 ghost use Rattle.sheet.specs.Sheet.{Within, Decision, Priced};
-ghost use Rattle.questions.specs.Put.{rangesAt, countInRange, ChosenExists, Before, passesAt};
+ghost use Rattle.questions.specs.Put.{rangesAt, countInRange, ChosenExists, Before, lowestOf, passesAt};
 use model::MAX_ACTIONS;
 use model::MAX_COST;
 use model::NO_PLAN;
@@ -35,8 +36,8 @@ use sheet::pricing::price;
 pub(crate) enum Question {
     // 5: costs, values, marks and chosen actions in range
     Ranges,
-    // 6: successors in order
-    Findings,
+    // 6: successors in order; and, unless it is a draft's, above their decision
+    Findings(bool),
     // 7: values at most costs and prices
     Values,
     // 8: marks earned
@@ -120,18 +121,19 @@ fn ascending_at(sheet: &[u8], at: usize, step: usize, low: usize, n: usize) -> b
     }
 }
 
-// Are the successors of each action of a state above the state, each `step` or more above the one before it, and below `n`?
-fn in_steps(sheet: &[u8], table: &[u32], state: usize, step: usize, n: usize) -> bool
+// Of the successors of each action of a state, is the first `low` or more, each of the others `step` or more above the one before it, and
+// is each below `n`?
+fn in_steps(sheet: &[u8], table: &[u32], state: usize, step: usize, low: usize, n: usize) -> bool
     requires { ⌜ Within (now sheet) (now table) state ⌝ }
     requires { ⌜ step ≤ 1 ⌝ }
-    ensures { λ r. ⌜ r ≡ successorsInOrder step n state (nodeAt (problemOf (now (sheet .entry))) state) ⌝ }
+    ensures { λ r. ⌜ r ≡ successorsInOrder step low n (nodeAt (problemOf (now (sheet .entry))) state) ⌝ }
 {
     if is_terminal(sheet, table, state) {
         return true;
     }
     let mut at: usize = first_action(sheet, table, state);
     while action_here(sheet, at) {
-        if ascending_at(sheet, at, step, state + 1, n) {
+        if ascending_at(sheet, at, step, low, n) {
             at = next_action(sheet, at);
         } else {
             return false;
@@ -140,24 +142,24 @@ fn in_steps(sheet: &[u8], table: &[u32], state: usize, step: usize, n: usize) ->
     true
 }
 
-// Question 6 of one state: on a worst sheet successors ascend strictly, and on a whole one equal ones may stand side by side. The step is a
-// number at each call, so that the compiler makes a loop for each kind.
-fn in_order(sheet: &[u8], table: &[u32], state: usize, n: usize) -> bool
+// Question 6 of one state, whose successors are `low` or more: on a worst sheet they ascend strictly, and on a whole one equal ones may
+// stand side by side. The step is a number at each call, so that the compiler makes a loop for each kind.
+fn in_order(sheet: &[u8], table: &[u32], state: usize, low: usize, n: usize) -> bool
     requires { ⌜ Within (now sheet) (now table) state ⌝ }
-    ensures { λ r. ⌜ r ≡ successorsInOrder (apart (problemOf (now (sheet .entry)) .kind)) n state
+    ensures { λ r. ⌜ r ≡ successorsInOrder (apart (problemOf (now (sheet .entry)) .kind)) low n
         (nodeAt (problemOf (now (sheet .entry))) state) ⌝ }
 {
     if sheet[format::KIND_IN] == format::WORST {
-        in_steps(sheet, table, state, 1, n)
+        in_steps(sheet, table, state, 1, low, n)
     } else {
-        in_steps(sheet, table, state, 0, n)
+        in_steps(sheet, table, state, 0, low, n)
     }
 }
 
 // Question 7 of one state.
 fn value_under(sheet: &[u8], table: &[u32], state: usize) -> bool
     requires { ⌜ Within (now sheet) (now table) state ⌝ }
-    requires { ⌜ question6 (problemOf (now sheet)) ≡ true ⌝ }
+    requires { ⌜ Inside (problemOf (now sheet)) ⌝ }
     ensures { λ r. ⌜ r ≡ valueUnder (problemOf (now (sheet .entry))) (cellsOf (now (sheet .entry))) state
         (nodeAt (problemOf (now (sheet .entry))) state) ⌝ }
 {
@@ -223,7 +225,7 @@ pub fn chosen_action(sheet: &[u8], table: &[u32], state: usize) -> usize
 // Question 8 of one solved state: a terminal has its cost, a decision without actions none, another the price of its chosen action.
 fn mark_earned(sheet: &[u8], table: &[u32], state: usize) -> bool
     requires { ⌜ Within (now sheet) (now table) state ⌝ }
-    requires { ⌜ question6 (problemOf (now sheet)) ≡ true ⌝ }
+    requires { ⌜ Inside (problemOf (now sheet)) ⌝ }
     requires { ⌜ ChosenExists (problemOf (now sheet)) (cellsOf (now sheet)) state ⌝ }
     ensures { λ r. ⌜ r ≡ markEarned (problemOf (now (sheet .entry))) (cellsOf (now (sheet .entry))) state
         (nodeAt (problemOf (now (sheet .entry))) state) ⌝ }
@@ -245,6 +247,14 @@ fn mark_earned(sheet: &[u8], table: &[u32], state: usize) -> bool
     }
 }
 
+// The lowest number that a successor of a state may have: where it is asked that they are above it, the next.
+fn lowest_of(above: bool, state: usize) -> usize
+    requires { ⌜ state < 65536 ⌝ }
+    ensures { λ r. ⌜ r ≡ lowestOf above state ⌝ }
+{
+    if above { state + 1 } else { 0 }
+}
+
 // A question of one state, the questions before it answered yes for the whole sheet.
 fn passes(sheet: &[u8], table: &[u32], n: usize, state: usize, question: Question) -> bool
     requires { ⌜ Within (now sheet) (now table) state ⌝ }
@@ -254,7 +264,10 @@ fn passes(sheet: &[u8], table: &[u32], n: usize, state: usize, question: Questio
 {
     match question {
         Question::Ranges => in_range(sheet, table, state),
-        Question::Findings => in_order(sheet, table, state, n),
+        Question::Findings(above) => {
+            let low = lowest_of(above, state);
+            in_order(sheet, table, state, low, n)
+        }
         Question::Values => value_under(sheet, table, state),
         Question::Marks => {
             if solved_at(sheet, table, state) {

@@ -16,7 +16,7 @@ use Rattle.model.specs.Problem.{cellOf, solved, _∈_, here, there}
 use Rattle.model.specs.Limits.{ceiling, noPlan, maxCost}
 use Rattle.model.specs.Questions.{costsInRange, chosenInRange, cellInRange, question5, apart, ascending, successorsInOrder, question6}
 use Rattle.model.specs.Questions.{valueUnder, question7, allSolved, passedBy, markEarned, question8}
-use Rattle.layout.proofs.Shapes.{node-shaped, action-shaped, ascending-first, ascending-in}
+use Rattle.layout.proofs.Shapes.{node-shaped, action-shaped, ascending-first, ascending-in, is-state}
 use Rattle.layout.specs.Shape.{NodeShaped, ChosenShaped}
 use Rattle.theory.specs.Consistent.{Ascends, endOf, WellFormed, Settles, Sound, Consistent}
 use Rattle.theory.specs.Asked.{Asked}
@@ -46,20 +46,12 @@ ascends d low n (t ∷ ts) h =
     let (_, _, more) = ascending-first d low n t ts h in
     (λ u m. omega (arith, ascending-in d (t + d) n ts more u m), ascends d (t + d) n ts more)
 
--- past the last state there is no decision
-pub is-state : (p : Problem) (s : ℕ) {form : Form} (acts : List Action) → nodeAt p s ≡ decision form acts → s < states p
-is-state p s acts e = go (lt-or-le s (states p))
-  where
-    go : (s < states p) ⊎ (states p ≤ s) → s < states p
-    go (inl l) = l
-    go (inr le) = let z : _≡_ {A = ℕ} 0 1 = cc (List·getD-eq-default (p .nodes) (terminal 0) {n = s} le) in absurd (omega arith)
-
 module _ (p : Problem) (cells : List Cell) (h : Asked p cells) where
   five : (s : ℕ) → s < states p → (costsInRange (nodeAt p s) ≡ true) × (cellInRange (nodeAt p s) (cellOf cells s) ≡ true)
   unfolding question5
   five s l = let e = all-true _ (every-true (states p) _ (h .five) s l) in (e .0, e .1 .0)
 
-  six : (s : ℕ) → s < states p → successorsInOrder (apart (p .kind)) (states p) s (nodeAt p s) ≡ true
+  six : (s : ℕ) → s < states p → successorsInOrder (apart (p .kind)) (s + 1) (states p) (nodeAt p s) ≡ true
   unfolding question6
   six s l = every-true (states p) _ (h .six) s l
 
@@ -170,6 +162,7 @@ module _ (p : Problem) (cells : List Cell) (h : Asked p cells) where
 pub still-asked : (p : Problem) (first cells : List Cell) → Asked p first → Consistent p cells → Asked p cells
 unfolding question5 question7 question8 cellInRange chosenInRange valueUnder markEarned passedBy
 still-asked p first cells h g = record {
+  ordinary = h .ordinary;
   shaped = record {
     some = h .shaped .some;
     most = h .shaped .most;

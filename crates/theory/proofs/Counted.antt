@@ -19,10 +19,10 @@ use Rattle.model.specs.Ldfs.{work}
 use Rattle.model.specs.Report.{cellsAfter, onRefusal, answerUnder, bytesUnder, bytesAfter, tableUnder}
 use Rattle.model.specs.Demands.{Accepted, FormAdded, withoutCheck, LossRefused}
 use Rattle.layout.specs.Shape.{Shaped}
+use Rattle.layout.proofs.Shapes.{is-state}
 use Rattle.layout.proofs.Fields.{state-room}
-use Rattle.layout.proofs.Back.{problem-back, head-good, body-good}
+use Rattle.layout.proofs.Back.{problem-back, ordinary-good, body-good}
 use Rattle.layout.proofs.Without.{lessAction, lessProblem, less-length, without-action, less-node, less-shaped}
-use Rattle.theory.proofs.Accepted.{is-state}
 use Rattle.theory.proofs.LimitLaws.{sheet-raised, yes-accepted}
 use Rattle.theory.proofs.Sheets.{Stands, accepted-stands, stands-problem, unrefused-under, unrefused}
 use Rattle.theory.proofs.Called.{rewritten, bytes-refused}
@@ -143,7 +143,7 @@ module _ (s : List ℕ) (acc : Accepted s) (t i n : ℕ) (acts : List Action)
   left-refused : (entries budget : ℕ) → maxStates ≤ entries → refusal (withoutCheck s t i) entries budget ≡ 10
   unfolding refusalUnder firstNo question1
   left-refused entries budget room =
-      let head = rw (← left-is) at (head-good less (cellsOf s) shaped) in
+      let head = rw (← left-is) at (ordinary-good less (cellsOf s) shaped (stands .asked .ordinary)) in
       let body = rw (← left-is) at (body-good less (cellsOf s) shaped) in
       rw (le-leb maxStates entries room, left-size, head, body, left-count)
 

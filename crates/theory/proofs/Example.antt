@@ -59,7 +59,7 @@ unfolding computing
 answers-A = refl
 
 -- bytes, by a computed test
-tested : (s : List ℕ) → every (length s) (λ i. ltb (getD s i 0) 256) ≡ true → Bytes s
+pub tested : (s : List ℕ) → every (length s) (λ i. ltb (getD s i 0) 256) ≡ true → Bytes s
 tested s h i = go (lt-or-le i (length s))
   where
     go : (i < length s) ⊎ (length s ≤ i) → getD s i 0 < 256

@@ -9,6 +9,7 @@ use native.Mathlib.Omega.{arith}
 use borrow.Author.Tests.{le-leb, lt-leb, eq-eqb, eqb-true}
 use Rattle.model.specs.Tests.{fork}
 use Rattle.model.specs.Limits.{maxStates, ceiling, noPlan, manyRaises}
+use Rattle.model.specs.Format.{headTag}
 use Rattle.model.specs.Read.{problemOf, cellsOf}
 use Rattle.model.specs.Questions.{question1, question2, question3, question4, question10, question5, question6, question7, question8}
 use Rattle.model.specs.Questions.{question9, question, sheetQuestionsUnder, firstNo, refusalUnder, acceptedUnder}
@@ -19,7 +20,7 @@ use Rattle.layout.proofs.Heads.{head-raised}
 -- the questions stands here alone.
 pub record SheetYes (limit : ℕ) (s : List ℕ) : Type 0 where
   pub two : question2 s ≡ true
-  pub three : question3 limit s ≡ true
+  pub three : question3 headTag limit s ≡ true
   pub four : question4 s ≡ true
   pub ten : question10 (problemOf s) ≡ true
   pub five : question5 (problemOf s) (cellsOf s) ≡ true
@@ -36,7 +37,7 @@ in-turn limit s h =
     (h .two, (h .three, (h .four, (h .ten, (h .five, (h .six, (h .seven, (h .eight, tt))))))))
 
 -- the same answers under another limit, by that of question 3
-pub with-head : {limit : ℕ} (other : ℕ) (s : List ℕ) → SheetYes limit s → question3 other s ≡ true → SheetYes other s
+pub with-head : {limit : ℕ} (other : ℕ) (s : List ℕ) → SheetYes limit s → question3 headTag other s ≡ true → SheetYes other s
 with-head other s h three = record {
   two = h .two;
   three = three;
@@ -50,7 +51,7 @@ with-head other s h three = record {
 
 -- a larger limit accepts what a smaller one accepts
 pub sheet-raised : {small large : ℕ} → small ≤ large → (s : List ℕ) → SheetYes small s → SheetYes large s
-sheet-raised {small} {large} le s h = with-head large s h (head-raised le s (h .three))
+sheet-raised {small} {large} le s h = with-head large s h (head-raised headTag le s (h .three))
 
 pub accepted-yes : (limit : ℕ) (s : List ℕ) → acceptedUnder limit s ≡ true → SheetYes limit s
 unfolding acceptedUnder
@@ -62,7 +63,7 @@ yes-accepted limit s h = eq-eqb _ _ (all-yes (sheetQuestionsUnder limit s) (in-t
 
 -- the same refusal, whatever the limits and the numbers of entries are
 pub refusal-same : (a b : ℕ) (s : List ℕ) (entries entries′ budget : ℕ) → question1 a entries ≡ question1 b entries′ →
-    question3 a s ≡ question3 b s →
+    question3 headTag a s ≡ question3 headTag b s →
     refusalUnder a s entries budget ≡ refusalUnder b s entries′ budget
 unfolding refusalUnder firstNo
 refusal-same a b s entries entries′ budget one three = rw (one, three)

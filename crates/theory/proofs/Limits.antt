@@ -9,6 +9,7 @@ use native.Mathlib.Omega.{arith}
 use borrow.Author.Tests.{le-leb}
 use lib.ListN.{length, replicate, replicate-append-replicate}
 use Rattle.model.specs.Problem.{Problem, states}
+use Rattle.model.specs.Format.{headTag}
 use Rattle.model.specs.Read.{problemOf}
 use Rattle.model.specs.Limits.{maxStates}
 use Rattle.model.specs.Questions.{question1, question3, questionsUnder, refusalUnder, acceptedUnder}
@@ -35,10 +36,10 @@ few-states : (limit : ℕ) (s : List ℕ) (entries budget : ℕ) → refusalUnde
     states (problemOf s) ≤ limit
 unfolding refusalUnder
 few-states limit s entries budget e =
-    states-within s (none-no (questionsUnder limit s entries budget) refl e .1 .1 .0)
+    states-within headTag s (none-no (questionsUnder limit s entries budget) refl e .1 .1 .0)
 
 -- Two limits, each with a table that question 1 does not refuse, of a sheet for which question 3 has the same answer.
-module _ (a b : ℕ) (s : List ℕ) (three : question3 a s ≡ question3 b s) where
+module _ (a b : ℕ) (s : List ℕ) (three : question3 headTag a s ≡ question3 headTag b s) where
   room-same : (entries entries′ : ℕ) → a ≤ entries → b ≤ entries′ → question1 a entries ≡ question1 b entries′
   unfolding question1
   room-same entries entries′ h h′ = rw (le-leb a entries h, le-leb b entries′ h′)
@@ -76,7 +77,7 @@ module _ (a b : ℕ) (s : List ℕ) (three : question3 a s ≡ question3 b s) wh
 pub limit-raised : {small large : ℕ} → small ≤ large → (s : List ℕ) → acceptedUnder small s ≡ true → Raised small large s
 limit-raised {small} {large} le s acc =
     let yes = accepted-yes small s acc in
-    let three : question3 small s ≡ question3 large s = yes .three ∙ sym (head-raised le s (yes .three)) in
+    let three : question3 headTag small s ≡ question3 headTag large s = yes .three ∙ sym (head-raised headTag le s (yes .three)) in
     record {
       still-accepted = yes-accepted large s (sheet-raised le s yes);
       same-answer = answer-same small large s three;

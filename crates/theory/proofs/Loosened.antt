@@ -26,11 +26,11 @@ module _ (d e n : ℕ) (le : e ≤ d) where
       let (above, below, more) = ascending-first d low n t ts h in
       ascending-put e low′ n t ts (omega arith) below (ascending-looser (t + d) (t + e) ts (omega arith) more)
 
-  successors-looser : (s : ℕ) (node : Node) → successorsInOrder d n s node ≡ true → successorsInOrder e n s node ≡ true
+  successors-looser : (low : ℕ) (node : Node) → successorsInOrder d low n node ≡ true → successorsInOrder e low n node ≡ true
   unfolding successorsInOrder
-  successors-looser s (terminal cost) h = refl
-  successors-looser s (decision form acts) h =
-      true-every _ _ (λ i l. ascending-looser (s + 1) (s + 1) _ (omega arith) (every-true _ _ h i l))
+  successors-looser low (terminal cost) h = refl
+  successors-looser low (decision form acts) h =
+      true-every _ _ (λ i l. ascending-looser low low _ (omega arith) (every-true _ _ h i l))
 
 apart-few : (k : Kind) → apart k ≤ 1
 unfolding apart
@@ -41,7 +41,7 @@ apart-few whole = omega arith
 pub strict-in-order : (p : Problem) → inOrder 1 p ≡ true → question6 p ≡ true
 unfolding question6
 strict-in-order p h =
-    true-every _ _ (λ s l. successors-looser 1 (apart (p .kind)) _ (apart-few (p .kind)) s _ (every-true _ _ h s l))
+    true-every _ _ (λ s l. successors-looser 1 (apart (p .kind)) _ (apart-few (p .kind)) (s + 1) _ (every-true _ _ h s l))
 
 -- Where findings ascend strictly, both are answered yes: what is accepted was accepted then, and a call is refused as it was.
 module _ (limit : ℕ) (s : List ℕ) (six : inOrder 1 (problemOf s) ≡ true) where

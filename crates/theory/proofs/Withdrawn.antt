@@ -11,7 +11,7 @@ use Rattle.model.proofs.TestLaws.{also-true, true-also, all-true, true-all, eve
 use Rattle.model.proofs.QuestionLaws.{AllYes, none-no, all-yes}
 use Rattle.model.specs.Problem.{Problem, Cell, states, valueOf}
 use Rattle.model.specs.Limits.{maxStates, ceiling}
-use Rattle.model.specs.Format.{Bytes, be16, write}
+use Rattle.model.specs.Format.{Bytes, headTag, be16, write}
 use Rattle.model.specs.Read.{problemOf, cellsOf}
 use Rattle.model.specs.Questions.{question2, everyState, sheetQuestionsUnder, firstNo}
 use Rattle.model.specs.Questions.{refusalUnder}
@@ -21,10 +21,10 @@ use Rattle.model.specs.Report.{cellsAfter, onRefusal, answerUnder, bytesUnder, 
 use Rattle.model.specs.Ldfs.{work}
 use Rattle.model.specs.Demands.{Withdrawn}
 use Rattle.layout.proofs.Heads.{head-says, head-same}
+use Rattle.layout.proofs.Shapes.{is-state}
 use Rattle.layout.proofs.Index.{states-within, states-read}
 use Rattle.layout.proofs.Places.{write-length}
 use Rattle.theory.specs.Consistent.{Consistent}
-use Rattle.theory.proofs.Accepted.{is-state}
 use Rattle.theory.proofs.LimitLaws.{SheetYes, by-number, in-turn, with-head, sheet-raised, yes-accepted, refusals-left}
 use Rattle.theory.proofs.Sheets.{Stands, accepted-stands, stands-yes, stands-problem, stands-cells}
 use Rattle.theory.proofs.Called.{rewritten}
@@ -106,10 +106,10 @@ module _ (limit : ℕ) (within : limit ≤ maxStates) (s : List ℕ) (bytes : By
       let left = rewritten s (problemOf s) (cellsOf s) stands cells h in
       let problem = stands-problem _ _ _ left in
       let yes = stands-yes _ _ _ left in
-      let few = states-within s (was .today .three) in
+      let few = states-within headTag s (was .today .three) in
       let count : states (problemOf s) ≡ be16 (write (problemOf s) cells) 4 =
       ap (λ (p : Problem). states p) (sym problem) ∙ states-read (write (problemOf s) cells) in
-      let head = head-same maxStates limit _ (head-says _ (yes .three) .5) (omega (arith, count, few)) in
+      let head = head-same headTag maxStates limit _ (head-says _ (yes .three) .5) (omega (arith, count, few)) in
       let size : length (write (problemOf s) cells) ≡ length s =
       write-length (problemOf s) cells (cellsOf s) ∙ ap (λ (b : List ℕ). length b) (sym (stands .is)) in
       record {

@@ -1,142 +1,68 @@
--- A line of code put before the states' place lengthens one of the functions from place to place by a `.before`, and one behind it the
--- answers there.
-use mathlib.Core.Path.{_≡_, sym, _∙_}
-use mathlib.Core.Bool.{true}
+-- A line of code put before the questions about fields lengthens `start-of` by a `.before`, and one behind them the answers there.
+use mathlib.Core.Path.{refl, sym, _∙_}
 use native.Mathlib.Omega.{arith}
 use borrow.Author.Needs.{needs}
-use Rattle.model.specs.Format.{Bytes, be16}
-use Rattle.model.specs.Questions.{question3}
-use Rattle.layout.proofs.Heads.{head-says}
-use Rattle.questions.proofs.Asking.{Laid, too-short, too-long, no-3, no-4, no-10, then-states, states-are, zero-within, table-is}
+use Rattle.model.specs.Format.{Bytes, headTag}
+use Rattle.questions.proofs.Asking.{Fielded, fielded, then-more, first-of}
 use Rattle.questions.proofs.first_no.Statement.{statement}
 use Rattle.questions.proofs.first_no.Tie as tie
 
--- the call, from where the length is right; that place, from where the head is; that one, from the number of states; and that, from
--- the states
-abbrev start-of : tie.Else2 → tie.Start
+-- the call, from where the fields have been asked about; that place, from where the answer is yes
+abbrev start-of : tie.After-fields-no → tie.Start
 start-of c = c .before .before .before .before
 
-abbrev sized-of : tie.Then3 → tie.Else2
-sized-of c = c .before .before
-
-abbrev headed-of : tie.After-word-to-index → tie.Then3
-headed-of c = c .before .before
-
-abbrev counted-of : tie.After-read-fields → tie.After-word-to-index
-counted-of c = c .before .before
-
--- the head is in place, and n is its number of states
-headed : (c : tie.Then3) → let a = start-of (sized-of c) .args in question3 (a .limit) (a .sheet .now) ≡ true
-headed c = sym (c .before .head-in-place .ensures) ∙ c .if3 .taken
-
-counted : (c : tie.After-word-to-index) → c .word-to-index .result ≡ be16 (start-of (sized-of (headed-of c)) .args .sheet .now) 4
-counted c = c .word-to-index .ensures .0 ∙ c .before .get16 .ensures .0
-
--- the states are in place
-laid : (c : tie.Then4) → let n = counted-of (c .before .before .before) in
-    let a = start-of (sized-of (headed-of n)) .args in
-    Laid (a .limit) (a .sheet .now) (n .word-to-index .result)
-laid c =
-    let stages = c .before .before .before in
-    let n = counted-of stages in
-    let size = sized-of (headed-of n) in
-    record {
-      least = size .before .if1 .left;
-      most = size .if2 .left;
-      within = start-of size .pre .1;
-      head = headed (headed-of n);
-      count = counted n;
-      good = sym (stages .read-fields .ensures .0) ∙ c .if4 .taken;
-    }
+abbrev asked-of : tie.Then1 → tie.After-fields-no
+asked-of c = c .before .before .before
 
 -- the bytes are bytes
-bytes : (c : tie.Else2) → Bytes (start-of c .args .sheet .now)
+bytes : (c : tie.After-fields-no) → Bytes (start-of c .args .sheet .now)
 bytes c i = c .before .before .before .shared-slice-known .given i .fits
 
-returns : tie.Need-returns
-returns c =
-    (too-short _ _ (c .if1 .taken), λ z. absurd (omega arith))
+-- the fields are in place
+in-place : (c : tie.Then1) → let no = asked-of c in Fielded (start-of no .args .sheet .now) (no .fields-no .last .1 .0)
+in-place c =
+    let no = asked-of c in
+    let (is, table) = no .fields-no .ensures in
+    fielded headTag _ _ _ _ (start-of no .pre .1) (bytes no) (sym is ∙ c .if1 .taken) (table (c .if1 .taken))
 
-returns-2 : tie.Need-returns-2
-returns-2 c =
-    (too-long _ _ (c .before .if1 .left) (c .if2 .taken), λ z. absurd (omega arith))
+fields-no-requires : tie.Need-fields-no-requires
+fields-no-requires c κs = search needs
 
-head-in-place-requires : tie.Need-head-in-place-requires
-head-in-place-requires c κs = omega arith
-
-get16-requires : tie.Need-get16-requires
-get16-requires c κs = omega arith
-
-word-to-index-requires : tie.Need-word-to-index-requires
-word-to-index-requires c κs = search needs
-
-read-fields-requires : tie.Need-read-fields-requires
-read-fields-requires c κs =
-    let n = c .before in
-    let size = sized-of (headed-of n) in
-    let h = head-says (start-of size .args .sheet .now) (headed (headed-of n)) in
-    (omega (arith, counted n, h .5, start-of size .pre .0), omega arith, size .if2 .left)
+count-of-requires : tie.Need-count-of-requires
+count-of-requires c κs = in-place c .long
 
 states-no-requires : tie.Need-states-no-requires
 states-no-requires c κs =
-    let yes = c .before .before in
-    let stages = yes .before .before .before in
-    let size = sized-of (headed-of (counted-of stages)) in
-    (zero-within (laid yes) (bytes size) _ _ (stages .read-fields .ensures .1 .1 (yes .if4 .taken)), states-are (laid yes))
+    let n = c .before in
+    let yes = in-place (n .before) in
+    let count = n .count-of .ensures .0 in
+    ((omega (arith, count, yes .some), yes .within), count)
 
 same-length : tie.Need-same-length
 same-length c = search needs
 
-returns-3 : tie.Need-returns-3
-returns-3 c =
-    let right = c .before .before in
-    let yes = right .before in
-    let stages = yes .before .before .before in
-    let table = table-is (laid yes) _ _ (stages .read-fields .ensures .1 .1 (yes .if4 .taken)) in
-    let then = then-states (laid yes) _ (stages .read-fields .ensures .1 .0 (yes .if4 .taken)) (right .if5 .taken) in
-    (c .states-no .ensures ∙ sym then, λ _. table)
+returns : tie.Need-returns
+returns c =
+    let yes = c .before .before .before in
+    let (is, table) = asked-of yes .fields-no .ensures in
+    (c .states-no .ensures ∙ sym (then-more _ _ refl _ is (yes .if1 .taken)), λ _. table (yes .if1 .taken))
 
 same-length-2 : tie.Need-same-length-2
 same-length-2 c = search needs
 
-returns-4 : tie.Need-returns-4
-returns-4 c =
-    let yes = c .before in
-    let stages = yes .before .before .before in
-    (no-10 (laid yes) _ (stages .read-fields .ensures .1 .0 (yes .if4 .taken)) (c .if5 .left), λ z. absurd (omega arith))
-
-same-length-3 : tie.Need-same-length-3
-same-length-3 c = search needs
-
-returns-5 : tie.Need-returns-5
-returns-5 c =
-    let stages = c .before .before .before in
-    let n = counted-of stages in
-    let size = sized-of (headed-of n) in
-    let bad = sym (stages .read-fields .ensures .0) ∙ c .if4 .left in
-    (no-4 _ _ (size .before .if1 .left) (size .if2 .left) (headed (headed-of n)) _ (counted n) bad, λ z. absurd (omega arith))
-
-returns-6 : tie.Need-returns-6
-returns-6 c =
-    let size = c .before .before in
-    let no = sym (c .before .head-in-place .ensures) ∙ c .if3 .left in
-    (no-3 _ _ (size .before .if1 .left) (size .if2 .left) no, λ z. absurd (omega arith))
+returns-2 : tie.Need-returns-2
+returns-2 c =
+    let no = c .before .before .before in
+    (first-of _ _ refl _ (no .fields-no .ensures .0) (c .if1 .left), λ z. absurd (c .if1 .left z))
 
 pub first-no-spec : {M : Type 1} → statement M
 first-no-spec =
     tie.close
     (tie.spec
-    returns
-    returns-2
-    head-in-place-requires
-    get16-requires
-    word-to-index-requires
-    read-fields-requires
+    fields-no-requires
+    count-of-requires
     states-no-requires
     same-length
-    returns-3
+    returns
     same-length-2
-    returns-4
-    same-length-3
-    returns-5
-    returns-6)
+    returns-2)

@@ -43,7 +43,7 @@ returns c =
     let long = c .before .before in
     let tagged = tagged-of long in
     let st = start-of tagged in
-    head-kind (st .args .limit) (st .args .s .now) (st .pre) (tagged .if1 .taken) (five long) (c .if3 .taken)
+    head-kind (st .args .wanted) (st .args .limit) (st .args .s .now) (st .pre) (tagged .if1 .taken) (five long) (c .if3 .taken)
 
 get16-requires-2 : tie.Need-get16-requires-2
 get16-requires-2 c κs = search needs
@@ -54,7 +54,8 @@ returns-2 c =
     let kind = kind-of stages in
     let tagged = tagged-of (long-of kind) in
     let st = start-of tagged in
-    let head = head-none (st .args .limit) (st .args .s .now) (st .pre) (tagged .if1 .taken) (five (long-of kind)) (kind .if3 .left) in
+    let a = st .args in
+    let head = head-none (a .wanted) (a .limit) (a .s .now) (st .pre) (tagged .if1 .taken) (five (long-of kind)) (kind .if3 .left) in
     head (omega (arith, stages .get162 .ensures .0, c .if4 .taken))
 
 word-to-index-requires : tie.Need-word-to-index-requires
@@ -67,7 +68,8 @@ returns-3 c =
     let kind = kind-of stages in
     let tagged = tagged-of (long-of kind) in
     let st = start-of tagged in
-    let head = head-many (st .args .limit) (st .args .s .now) (st .pre) (tagged .if1 .taken) (five (long-of kind)) (kind .if3 .left) in
+    let a = st .args in
+    let head = head-many (a .wanted) (a .limit) (a .s .now) (st .pre) (tagged .if1 .taken) (five (long-of kind)) (kind .if3 .left) in
     let n = as-index .word-to-index .ensures .0 ∙ stages .get162 .ensures .0 in
     head (omega (arith, stages .get162 .ensures .0, as-index .before .if4 .left)) (omega (arith, n, c .if5 .taken))
 
@@ -83,7 +85,8 @@ returns-4 c =
     let st = start-of tagged in
     let n = stages .get162 .ensures .0 in
     let index = as-index .word-to-index .ensures .0 ∙ n in
-    let head = head-start (st .args .limit) (st .args .s .now) (st .pre) (tagged .if1 .taken) (five (long-of kind)) (kind .if3 .left) in
+    let a = st .args in
+    let head = head-start (a .wanted) (a .limit) (a .s .now) (st .pre) (tagged .if1 .taken) (five (long-of kind)) (kind .if3 .left) in
     rw (c .get163 .ensures .0, n) (head (omega (arith, n, as-index .before .if4 .left)) (omega (arith, index, c .before .if5 .left)))
 
 returns-5 : tie.Need-returns-5
@@ -91,11 +94,11 @@ returns-5 c =
     let tagged = c .before .before in
     let st = start-of tagged in
     let length = c .before .get16 .ensures .0 in
-    head-length (st .args .limit) (st .args .s .now) (st .pre) (tagged .if1 .taken) (λ e. c .if2 .left (length ∙ e))
+    head-length (st .args .wanted) (st .args .limit) (st .args .s .now) (st .pre) (tagged .if1 .taken) (λ e. c .if2 .left (length ∙ e))
 
 returns-6 : tie.Need-returns-6
 returns-6 c =
-    let st = c .before .before .before in head-tag (st .args .limit) (st .args .s .now) (st .pre) (c .if1 .left)
+    let st = c .before .before .before in head-tag (st .args .wanted) (st .args .limit) (st .args .s .now) (st .pre) (c .if1 .left)
 
 pub head-in-place-spec : {M : Type 1} → statement M
 head-in-place-spec =

@@ -2,7 +2,7 @@
 -- earlier.
 use native.Mathlib.Omega.{arith}
 use borrow.Author.Needs.{needs}
-use Rattle.listing.proofs.Writing.{wrote-behind}
+use Rattle.layout.proofs.Wrote.{wrote-behind}
 use Rattle.listing.proofs.lines.put_figures.Statement.{statement}
 use Rattle.listing.proofs.lines.put_figures.Tie as tie
 

@@ -7,7 +7,7 @@ use Rattle.model.specs.Read.{cellsOf}
 use Rattle.model.specs.QValue.{dearest}
 use Rattle.sheet.specs.Sheet.{Decision}
 use Rattle.questions.proofs.Stepping.{terminal-from, decision-from}
-use Rattle.listing.proofs.Writing.{wrote-behind}
+use Rattle.layout.proofs.Wrote.{wrote-behind}
 use Rattle.listing.proofs.Reaching.{state-within, chosen-exists, chosen-priced, chosen-successors}
 use Rattle.listing.proofs.Choices.{wrote-newline, wrote-by}
 use Rattle.listing.proofs.lines.put_line_end.Statement.{statement}

@@ -4,7 +4,7 @@ use mathlib.Core.Path.{sym, _∙_}
 use native.Mathlib.Omega.{arith}
 use borrow.Author.Needs.{needs}
 use Rattle.sheet.specs.Sheet.{Within}
-use Rattle.listing.proofs.Writing.{wrote-behind}
+use Rattle.layout.proofs.Wrote.{wrote-behind}
 use Rattle.listing.proofs.Reaching.{state-within}
 use Rattle.listing.proofs.lines.put_state.Statement.{statement}
 use Rattle.listing.proofs.lines.put_state.Tie as tie

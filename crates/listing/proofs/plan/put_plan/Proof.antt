@@ -3,7 +3,7 @@
 use mathlib.Core.Path.{refl}
 use native.Mathlib.Omega.{arith}
 use borrow.Author.Needs.{needs}
-use Rattle.listing.proofs.Writing.{wrote-none}
+use Rattle.layout.proofs.Wrote.{wrote-none}
 use Rattle.listing.proofs.plan.put_plan.Statement.{statement}
 use Rattle.listing.proofs.plan.put_plan.Tie as tie
 

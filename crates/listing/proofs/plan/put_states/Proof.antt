@@ -9,7 +9,7 @@ use lib.ListN.{length}
 use Rattle.model.specs.Read.{problemOf, cellsOf}
 use Rattle.listing.specs.Put.{Chooses}
 use Rattle.listing.proofs.Planned.{reached-chooses}
-use Rattle.listing.proofs.Writing.{wrote-length}
+use Rattle.layout.proofs.Wrote.{wrote-length}
 use Rattle.listing.proofs.Reaching.{Lined, lined-none, lined-all, lined-room, lined-state, lined-skip}
 use Rattle.listing.proofs.plan.put_states.Statement.{statement}
 use Rattle.listing.proofs.plan.put_states.Tie as tie

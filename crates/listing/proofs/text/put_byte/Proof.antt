@@ -1,5 +1,5 @@
 use borrow.Author.Needs.{needs}
-use Rattle.listing.proofs.Writing.{wrote-byte}
+use Rattle.layout.proofs.Wrote.{wrote-byte}
 use Rattle.listing.proofs.text.put_byte.Statement.{statement}
 use Rattle.listing.proofs.text.put_byte.Tie as tie
 

@@ -1,6 +1,7 @@
 -- A line of code put before the word lengthens `start-of` by a `.before`, and one behind it the answers there.
 use borrow.Author.Needs.{needs}
-use Rattle.listing.proofs.Writing.{wrote-behind, number-room, field-end}
+use Rattle.layout.proofs.Wrote.{wrote-behind}
+use Rattle.listing.proofs.Writing.{number-room, field-end}
 use Rattle.listing.proofs.text.put_field.Statement.{statement}
 use Rattle.listing.proofs.text.put_field.Tie as tie
 

@@ -6,7 +6,8 @@ use borrow.Author.Needs.{needs}
 use lib.ListN.{length}
 use Rattle.listing.specs.Text.{decimal}
 use Rattle.listing.proofs.Widths.{width-digits}
-use Rattle.listing.proofs.Writing.{Digits, no-digit, next-digit, all-digits, wrote-length}
+use Rattle.layout.proofs.Wrote.{wrote-length}
+use Rattle.listing.proofs.Writing.{Digits, no-digit, next-digit, all-digits}
 use Rattle.listing.proofs.text.put_number.Statement.{statement}
 use Rattle.listing.proofs.text.put_number.Tie as tie
 

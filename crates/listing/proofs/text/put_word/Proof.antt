@@ -4,8 +4,8 @@ use Prim.Native.Nat.{_-_, _≤_}
 use native.Mathlib.Omega.{arith}
 use borrow.Author.Needs.{needs}
 use lib.ListN.{length, take}
-use Rattle.listing.specs.Put.{Wrote}
-use Rattle.listing.proofs.Writing.{wrote-none, wrote-length, next-room, next-byte, whole-word}
+use Rattle.layout.specs.Placed.{Wrote}
+use Rattle.layout.proofs.Wrote.{wrote-none, wrote-length, next-room, next-byte, whole-word}
 use Rattle.listing.proofs.text.put_word.Statement.{statement}
 use Rattle.listing.proofs.text.put_word.Tie as tie
 

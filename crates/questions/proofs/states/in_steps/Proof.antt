@@ -17,11 +17,11 @@ use Rattle.questions.proofs.states.in_steps.Statement.{statement}
 use Rattle.questions.proofs.states.in_steps.Tie as tie
 
 abbrev Inv-loop : tie.InvT-loop
-Inv-loop sheet table state step n at₀ at =
-    (k : ℕ) × Along sheet state k at × (every k (orderOf (problemOf sheet) step n state) ≡ true)
+Inv-loop sheet table state step low n at₀ at =
+    (k : ℕ) × Along sheet state k at × (every k (orderOf (problemOf sheet) step low n state) ≡ true)
 
 abbrev μ-loop : tie.MeasureT-loop
-μ-loop sheet table state step n at₀ at = length sheet - at
+μ-loop sheet table state step low n at₀ at = length sheet - at
 
 -- the call, from where the state is no terminal; that place, from the loop; the loop, from an action that stands there; that action, from
 -- where it has been tested
@@ -49,7 +49,7 @@ stands c = along-stands (decided (else-of (loop-of c))) (loop-of c .loop .inv .1
 -- the test of action k
 tested : (c : tie.After-ascending-at Inv-loop μ-loop) (b : Bool) → c .ascending-at .result ≡ b →
     let L = loop-of (here-of c) in let a = start-of (else-of L) .args in
-    orderOf (problemOf (a .sheet .now)) (a .step) (a .n) (a .state) (L .loop .inv .0) ≡ b
+    orderOf (problemOf (a .sheet .now)) (a .step) (a .low) (a .n) (a .state) (L .loop .inv .0) ≡ b
 tested c b e =
     let L = loop-of (here-of c) in
     rw (along-is (decided (else-of L)) (L .loop .inv .1) (stands (here-of c))) at (sym (c .ascending-at .ensures) ∙ e)
@@ -60,7 +60,7 @@ is-terminal-requires c κs = search needs
 returns : tie.Need-returns Inv-loop μ-loop
 returns c =
     let st = c .before .before .before .before in
-    order-terminal (terminal-from (st .pre .0) _ (c .before .is-terminal .ensures) (c .if1 .taken)) _ _
+    order-terminal (terminal-from (st .pre .0) _ (c .before .is-terminal .ensures) (c .if1 .taken)) _ _ _
 
 first-action-requires : tie.Need-first-action-requires Inv-loop μ-loop
 first-action-requires c κs = decided c
@@ -71,10 +71,6 @@ loop-holds c = (0, along-begins (decided (c .before)) _ (c .first-action .ensure
 
 action-here-requires : tie.Need-action-here-requires Inv-loop μ-loop
 action-here-requires c κs = search needs
-
-add-ascending-at : tie.Need-add-ascending-at Inv-loop μ-loop
-add-ascending-at c =
-    let within = start-of (else-of (loop-of c)) .pre .0 in omega (arith, within .below, within .sheet .shaped .most)
 
 ascending-at-requires : tie.Need-ascending-at-requires Inv-loop μ-loop
 ascending-at-requires c κs =
@@ -102,14 +98,14 @@ returns-2 : tie.Need-returns-2 Inv-loop μ-loop
 returns-2 c =
     let here = here-of (c .before) in
     let L = loop-of here in
-    stepped-out _ _ _ (order-of (decided (else-of L)) _ _) (L .loop .inv .0) (stands here) (tested (c .before) false (c .if3 .left))
+    stepped-out _ _ _ (order-of (decided (else-of L)) _ _ _) (L .loop .inv .0) (stands here) (tested (c .before) false (c .if3 .left))
 
 returns-3 : tie.Need-returns-3 Inv-loop μ-loop
 returns-3 c =
     let L = c .before .before in
     let d = decided (else-of L) in
     let ends = along-ends d (L .loop .inv .1) _ (c .before .action-here .ensures) (c .if2 .left) in
-    all-stepped _ _ _ (order-of d _ _) (L .loop .inv .0) (L .loop .inv .2) (L .loop .inv .1 .upto) ends
+    all-stepped _ _ _ (order-of d _ _ _) (L .loop .inv .0) (L .loop .inv .2) (L .loop .inv .1 .upto) ends
 
 pub in-steps-spec : {M : Type 1} → statement M
 in-steps-spec =
@@ -122,7 +118,6 @@ in-steps-spec =
     first-action-requires
     loop-holds
     action-here-requires
-    add-ascending-at
     ascending-at-requires
     next-action-requires
     loop-less
