@@ -1,0 +1,12 @@
+pub mod Waits
+pub mod Releasing
+pub mod Run
+pub mod Tally
+pub mod Rows
+pub mod Writing
+pub mod Stages
+pub mod Whole
+pub mod Places
+pub mod Listing
+pub mod Turning
+pub mod Lending

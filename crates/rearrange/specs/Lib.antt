@@ -1,0 +1,4 @@
+pub mod Waits
+pub mod Rows
+pub mod Stages
+pub mod Turning
