@@ -4,7 +4,8 @@
 #     ./install.sh PREFIX
 #
 # puts PREFIX/lib/libldfs.a, PREFIX/include/ldfs.h, PREFIX/lib/pkgconfig/ldfs.pc and PREFIX/bin/price there, and beside them
-# PREFIX/share/doc/ldfs with HOST.md, SPEC.md, host.c, which is a host to start from, and the sample sheets. A host is then built with
+# PREFIX/share/doc/ldfs with HOST.md, SPEC.md, host.c, which is a host to start from, draft.c, a short one for drafts, and the sample sheets. A host
+# is then built with
 #
 #     cc host.c -IPREFIX/include -LPREFIX/lib -lldfs
 #
@@ -26,7 +27,7 @@ document() {
     rm -f "$2"
     away='\.\./(crates|tests)/|(\.\./docs/)?(PROMISES|DECISIONS|PERFORMANCE|GLOSSARY)\.md'
     sed -E -e 's#\[([^]]*)\]\(('"$away"')[^)]*\)#\1 (in the source)#g' \
-        -e 's#\[examples/host\.c\]\(\.\./examples/host\.c\)#[host.c](host.c)#g' -e 's#\]\(\.\./include/#](../../../include/#g' \
+        -e 's#\[examples/([a-z]+\.c)\]\(\.\./examples/[a-z]+\.c\)#[\1](\1)#g' -e 's#\]\(\.\./include/#](../../../include/#g' \
         -e 's#\]\(\.\./docs/#](../#g' -e 's#\]\(\.\./samples/#](samples/#g' "$1" >"$2"
 }
 
@@ -38,7 +39,7 @@ version=$(sed -n 's/^#define LDFS_VERSION "\(.*\)"$/\1/p' include/ldfs.h)
 install -m 755 target/bin/price "$prefix/bin/price"
 install -m 644 include/ldfs.h "$prefix/include/ldfs.h"
 install -m 644 target/staticlib/libhost.a "$prefix/lib/libldfs.a"
-install -m 644 examples/host.c "$doc/host.c"
+install -m 644 examples/host.c examples/draft.c "$doc"
 install -m 644 samples/*.sheet samples/make_samples.py "$doc/samples"
 document docs/HOST.md "$doc/HOST.md"
 document docs/SPEC.md "$doc/SPEC.md"

@@ -33,7 +33,7 @@ three-put s s′ s″ s‴ x y z h p q r =
 filled-count : (t : List ℕ) (n : ℕ) → length t ≤ n → length (filledUp t n) ≡ n
 filled-count t n h = rw (length-append, length-replicate) (omega arith)
 
-filled-at : (t : List ℕ) (k i : ℕ) → getD (t ++ replicate k 0) i 0 ≡ getD t i 0
+pub filled-at : (t : List ℕ) (k i : ℕ) → getD (t ++ replicate k 0) i 0 ≡ getD t i 0
 filled-at [] zero i = refl
 filled-at [] (suc k) zero = refl
 filled-at [] (suc k) (suc i) = filled-at [] k i

@@ -6,7 +6,7 @@ use native.Mathlib.Omega.{arith}
 use borrow.Author.Tests.{le-leb, lt-leb}
 use lib.ListN.{length, drop, replicate, length-replicate}
 use Rattle.model.specs.declared.Answer.{Answer}
-use Rattle.model.specs.Format.{be16, statesIn}
+use Rattle.model.specs.Format.{headTag, be16, statesIn}
 use Rattle.model.specs.Limits.{maxStates}
 use Rattle.model.specs.Questions.{question3, refusal}
 use Rattle.model.specs.Report.{number, refused, onRefusal, answerUnder, bytesUnder}
@@ -20,20 +20,20 @@ use Rattle.host.specs.HostCalls.{Hosted}
 use Rattle.host.specs.Served.{filledUp, fewStates, Serves, Worked}
 
 -- a table of zeros that serves a sheet: one for few states, and one for any sheet
-serves-zeros : (m : ℕ) (s t : List ℕ) → m ≤ maxStates → question3 m s ≡ question3 maxStates s → maxStates ≤ entries t →
+serves-zeros : (m : ℕ) (s t : List ℕ) → m ≤ maxStates → question3 headTag m s ≡ question3 headTag maxStates s → maxStates ≤ entries t →
     Serves (replicate m 0) s t
 serves-zeros m s t most head room =
     let long : length {A = ℕ} (replicate m 0) ≡ m = length-replicate m 0 in
     record { zeros = rw long; most = rw long most; head = rw long head; room = room }
 
 pub serves-few : (s t : List ℕ) → maxStates ≤ entries t → be16 s statesIn ≤ fewStates → Serves (replicate fewStates 0) s t
-serves-few s t room few = serves-zeros fewStates s t (omega arith) (head-same fewStates maxStates s few (omega arith)) room
+serves-few s t room few = serves-zeros fewStates s t (omega arith) (head-same headTag fewStates maxStates s few (omega arith)) room
 
 pub serves-all : (s t : List ℕ) → maxStates ≤ entries t → Serves (replicate maxStates 0) s t
 serves-all s t room = serves-zeros maxStates s t (omega arith) refl room
 
 -- what the work on such a table leaves is what a call with the host's table leaves
-zeros-worked : (s t : List ℕ) (budget m : ℕ) → m ≤ maxStates → question3 m s ≡ question3 maxStates s →
+zeros-worked : (s t : List ℕ) (budget m : ℕ) → m ≤ maxStates → question3 headTag m s ≡ question3 headTag maxStates s →
     maxStates ≤ entries t → {a : Answer} {s′ w t′ : List ℕ} → Filled s (replicate m 0) budget a s′ w →
     length w ≡ m → t′ ≡ entryBytes (filledUp w (entries t)) ++ drop (4 * entries t) t → Worked s t budget a s′ t′
 zeros-worked s t budget m most head room f long put =

@@ -2,3 +2,8 @@ pub mod Bytes
 pub mod Hosted
 pub mod Promises
 pub mod Example
+pub mod Tables
+pub mod Numbers
+pub mod HostedDrafts
+pub mod DraftPromises
+pub mod DraftExample

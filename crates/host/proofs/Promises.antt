@@ -24,7 +24,7 @@ use Rattle.host.specs.Host.{le32, le64, entries, room, hostNumber, hostS
 use Rattle.host.specs.HostCalls.{readLe32, readLe64, reported, hostCall, hostEntries, Hosted, HostedAll, none, one}
 
 -- a number's bytes, read, are the number
-back32 : (x : ℕ) → x < 4294967296 → readLe32 (le32 x) 0 ≡ x
+pub back32 : (x : ℕ) → x < 4294967296 → readLe32 (le32 x) 0 ≡ x
 back32 x h = omega (arith, four x)
 
 back64 : (x : ℕ) → x < 2 ^ 64 → readLe64 (le64 x) 0 ≡ x

@@ -2,11 +2,11 @@
 use Prim.Native.Nat.{ℕ, _*_, _/_, _%_}
 use mathlib.Core.Bool.{Bool}
 use mathlib.Core.List.{List, [], _∷_, _++_}
-use lib.Dec.{leb}
+use lib.Dec.{eqb, leb}
 use lib.ListN.{length, drop, replicate}
 use Rattle.model.specs.Tests.{fork}
 use Rattle.model.specs.Limits.{maxStates}
-use Rattle.model.specs.Report.{number, answerTo, bytesAfter, tableAfter}
+use Rattle.model.specs.Report.{number, tableGiven, answerTo, bytesAfter, tableAfter}
 
 -- numbers, least significant byte first
 abbrev pub le32 : ℕ → List ℕ
@@ -24,6 +24,14 @@ entryBytes (x ∷ xs) = le32 x ++ entryBytes xs
 abbrev pub entries : List ℕ → ℕ
 entries t = length t / 4
 
+-- a slice whose entries become some numbers: four bytes each, with up to three bytes left over at the end untouched
+abbrev pub asBytes : List ℕ → List ℕ → List ℕ
+asBytes xs bytes = entryBytes xs ++ drop (4 * entries bytes) bytes
+
+-- the table's bytes after a call on the sheet s, given the number of the question that refuses it, 0 for none: unaltered for want of room
+unfoldable pub hostTableGiven : ℕ → List ℕ → List ℕ → List ℕ
+hostTableGiven n s t = fork (eqb n 1) (λ _. t) (λ _. asBytes (tableGiven n s (replicate (entries t) 0)) t)
+
 -- S9.5: price, passes and raises take this many bytes of the result. Has it room for them?
 abbrev pub resultBytes : ℕ
 resultBytes = 24
@@ -39,13 +47,12 @@ hostNumber s t budget r = fork (room r) (λ _. number (answerTo s (entries t) bu
 unfoldable pub hostSheet : List ℕ → List ℕ → ℕ → List ℕ → List ℕ
 hostSheet s t budget r = fork (room r) (λ _. bytesAfter s (entries t) budget) (λ _. s)
 
--- the table's bytes after: unaltered where it is too short, else each entry's four bytes, with up to three bytes left over at the end
--- untouched
+-- the table's bytes after: unaltered where it is too short
 unfoldable pub hostTable : List ℕ → List ℕ → ℕ → List ℕ → List ℕ
 hostTable s t budget r =
     fork (room r)
     (λ _. fork (leb maxStates (entries t))
-    (λ _. entryBytes (tableAfter s (replicate (entries t) 0) budget) ++ drop (4 * entries t) t)
+    (λ _. asBytes (tableAfter s (replicate (entries t) 0) budget) t)
     (λ _. t))
     (λ _. t)
 

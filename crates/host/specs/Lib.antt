@@ -1,3 +1,5 @@
 pub mod Host
 pub mod HostCalls
 pub mod Served
+pub mod HostDrafts
+pub mod DraftCalls

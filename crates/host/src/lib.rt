@@ -1,4 +1,6 @@
-// The one function that a terminal's host program calls.
+// The functions that a terminal's host program calls: `ldfs_solve` here, those on drafts in drafts.rt.
+pub mod drafts; // drafts.rt: a draft rearranged, and restored
+
 ghost use mathlib.Core.Path.{_≡_};
 ghost use mathlib.Core.List.{_++_};
 ghost use mathlib.Core.Bool.{true};
