@@ -17,8 +17,8 @@ def field(tag, content):
     return bytes([tag]) + len(content).to_bytes(2, "big") + content
 
 
-def head(kind, stages, start=0):
-    return field(1, bytes([kind]) + stages.to_bytes(2, "big") + start.to_bytes(2, "big"))
+def head(kind, stages, start=0, tag=1):
+    return field(tag, bytes([kind]) + stages.to_bytes(2, "big") + start.to_bytes(2, "big"))
 
 
 def ending(cost, value=0, mark=OPEN):
@@ -38,6 +38,11 @@ def junction(checks, value=0, mark=OPEN, chosen=0, count=None):
 
 def sheet(kind, stages, start=0):
     return head(kind, len(stages), start) + b"".join(stages)
+
+
+def draft(kind, stages, start=0):
+    """A sheet whose findings may be any of its stages: it is to be rearranged before it is worked."""
+    return head(kind, len(stages), start, tag=6) + b"".join(stages)
 
 
 def sheet_a(first_cost=200):
@@ -125,6 +130,19 @@ def sheet_j(lost=False):
     ])
 
 
+def sheet_k(circle=False):
+    """Sheet K of the worked examples (S11), a draft of sheet A: its endings come first, and junction 2, the start, points back to ending 1.
+
+    With a circle junction 3 leads back to junction 2, which leads to it.
+    """
+    return draft(WORST, [
+        ending(100),
+        ending(0),
+        junction([(200, [1, 3]), (500, [1])]),
+        junction([(400, [0, 2] if circle else [0, 1])]),
+    ], start=2)
+
+
 def many_stages(stages):
     """A junction whose one check (100) leads to the first ending and to the last, and endings, each of which costs its own number."""
     return sheet(WORST, [junction([(100, [1, stages - 1])])] + [ending(number) for number in range(1, stages)])
@@ -200,6 +218,9 @@ SAMPLES = {
     "no-check-left-over.sheet": sheet_i(),
     # a counted junction, which writes the number of its checks, beside a plain one
     "counted.sheet": sheet_j(),
+    # a draft, which price refuses by 3 and the rearranger turns into sheet A; and one that the rearranger refuses
+    "draft.sheet": sheet_k(),
+    "refused-11.sheet": sheet_k(circle=True),
     # as many stages as a sheet may have, one more, and the deepest chain that 60,000 bytes hold
     "stages-4096.sheet": many_stages(4096),
     "stages-4097.sheet": many_stages(4097),

@@ -19,18 +19,20 @@ use output::explain;
 use output::fail;
 use output::fail_unless;
 use output::write;
+use sheet::numbers::byte_at;
 use words::usage;
 use words::version;
 
 // Lists a sheet (S10.2, S10.3), and explains its refusal (S10.5). The buffer has room for every listing, so it is never too short.
 fn price(sheet: &mut [u8]) {
+    let tag = byte_at(sheet, 0);
     let mut table = [0u32; MAX_STATES];
     let mut out = [0u8; ENOUGH];
     let listed = list(sheet, &mut table, &mut out);
     match listed {
         Listed::Written(n, o) => {
             write(&out[..n]);
-            explain(o);
+            explain(o, tag);
         }
         Listed::TooShort => {}
     }

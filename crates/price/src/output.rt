@@ -30,13 +30,13 @@ fn write_decimal(fd: i32, x: u64) {
     io::write_all(fd, &text[..n]);
 }
 
-// Explains a refusal on standard error (S10.5); no other outcome needs it.
-pub(crate) fn explain(o: Outcome) {
+// Explains a refusal on standard error (S10.5), of a sheet whose first byte is `tag`; no other outcome needs it.
+pub(crate) fn explain(o: Outcome, tag: u8) {
     match o {
         Outcome::Refused(n) => {
             io::write_all(STDERR_FILENO, b"price: refused ");
             write_decimal(STDERR_FILENO, n as u64);
-            words(STDERR_FILENO, n);
+            words(STDERR_FILENO, n, tag);
         }
         Outcome::Settled => {}
         Outcome::Over => {}

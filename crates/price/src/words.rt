@@ -1,4 +1,5 @@
 // How the program is used, its version, and why a sheet is refused, in words.
+use model::format;
 
 // Writes how the program is used (S10.8), and answers whether all of it was written.
 pub(crate) fn usage(fd: i32) -> bool {
@@ -19,7 +20,8 @@ reaches: its number, its check or `end`, its value, and for a check `by` and the
 stage that the dearest of its findings leads to. `over` says that every plan
 costs 1,000,000,000 cents or more, `none` that every plan comes to a junction
 without checks. A sheet that is refused gets `refused` and the number of the
-question that it fails, which is explained on standard error.
+question that it fails, which is explained on standard error. So does a draft, a
+sheet whose findings may be any of its stages: it is to be rearranged first.
 
 Every stage has a value, which never exceeds its least cost. A raise is one
 increase of a value, a pass one visit to the start. Nothing is printed before
@@ -44,22 +46,34 @@ share/doc/ldfs.
 
 // Writes the version (S10.11), which is that of the C header, and answers whether all of it was written.
 pub(crate) fn version(fd: i32) -> bool {
-    io::write_all(fd, b"price 2.3.1\n")
+    io::write_all(fd, b"price 2.4.0\n")
 }
 
-// Writes the id of the question with this number and what its "no" means (S4, S10.5), and ends the line. A number that no question has
-// gets no words.
-pub(crate) fn words(fd: i32, n: u32) -> bool {
+// Why a sheet that begins with this tag has no head (S4.3): a draft is to be rearranged first (S13.1).
+fn head_words(fd: i32, tag: u8) -> bool {
+    if tag == format::DRAFT_TAG {
+        io::write_all(
+            fd,
+            b" (S4.3): the head has tag 06, so this is a draft, which is to be rearranged first (ldfs_rearrange)\n",
+        )
+    } else {
+        io::write_all(
+            fd,
+            b" (S4.3): there is no head, or its kind, number of stages or start is out of range\n",
+        )
+    }
+}
+
+// Writes the id of the question with this number and what its "no" means (S4, S10.5), and ends the line; `tag` is the sheet's first byte. A
+// number that no question has gets no words.
+pub(crate) fn words(fd: i32, n: u32, tag: u8) -> bool {
     match n {
         1 => io::write_all(
             fd,
             b" (S4.1): the index table has no room for 4,096 entries\n",
         ),
         2 => io::write_all(fd, b" (S4.2): the sheet's size is not 17 to 60,000 bytes\n"),
-        3 => io::write_all(
-            fd,
-            b" (S4.3): there is no head, or its kind, number of stages or start is out of range\n",
-        ),
+        3 => head_words(fd, tag),
         4 => io::write_all(
             fd,
             b" (S4.4): the fields behind the head are not exactly its stages, whole and in order\n",

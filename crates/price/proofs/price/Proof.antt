@@ -6,6 +6,9 @@ use Rattle.listing.proofs.Answers.{listed-fits}
 use Rattle.price.proofs.price.Statement.{statement}
 use Rattle.price.proofs.price.Tie as tie
 
+byte-at-requires : tie.Need-byte-at-requires
+byte-at-requires c κs = search needs
+
 slice-aggregate-list : tie.Need-slice-aggregate-list
 slice-aggregate-list c = search needs
 
@@ -53,6 +56,7 @@ pub price-spec : {M : Type 1} → statement M
 price-spec =
     tie.close
     (tie.spec
+    byte-at-requires
     slice-aggregate-list
     slice-aggregate-list-2
     list-requires
