@@ -1,4 +1,4 @@
-//! Compiles the plain C copy and the lower bounds with -O3, and links them.
+//! Compiles the plain C copies and the lower bounds with -O3, and links them.
 
 use std::env;
 use std::path::PathBuf;
@@ -7,7 +7,7 @@ use std::process::Command;
 fn main() {
     let out = PathBuf::from(env::var("OUT_DIR").expect("cargo sets OUT_DIR"));
     println!("cargo:rustc-link-search=native={}", out.display());
-    for name in ["plain", "bounds"] {
+    for name in ["plain", "plain_drafts", "bounds"] {
         let source = format!("../c/{name}.c");
         println!("cargo:rerun-if-changed={source}");
         let (object, archive) = (out.join(format!("{name}.o")), out.join(format!("lib{name}.a")));

@@ -4,8 +4,10 @@
 //! calls, also outside, and not between its calls. Rounds of the three follow one another, and the quickest round of each counts.
 //! With a solver and a sheet as words it makes one call only, for a profiler. With `growth` it measures the library and the C copy on
 //! sheets of about 60,000 bytes that grow in one thing each, beside two lower bounds; and then on ladders, once each, since the largest
-//! takes minutes.
+//! takes minutes. With `drafts` it measures the two functions on drafts; with `drafts`, a function and a draft it makes one call only.
 
+mod draft_sheets;
+mod drafts;
 mod growth;
 mod plain;
 mod sheets;
@@ -50,8 +52,10 @@ fn run() {
             measure_growth();
             measure_ladders();
         }
+        [word] if word == "drafts" => drafts::measure_all(),
+        [word, function, draft] if word == "drafts" => drafts::once(function, draft),
         [solver, sheet] => once(solver, sheet),
-        _ => panic!("no words, `growth`, or a solver and a sheet, as the tables name them"),
+        _ => panic!("no words; `growth`; `drafts`; or what to call once, by its names in the tables and in C"),
     }
 }
 

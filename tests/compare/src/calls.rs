@@ -1,7 +1,7 @@
 //! Lists of calls: with any budget, any table, whatever that held, and any result slice.
 
-use crate::draft::{FORMER_MOST, MOST_STATES};
 use crate::rng::Rng;
+use crate::sketch::{FORMER_MOST, MOST_STATES};
 
 pub struct Call {
     pub budget: u64,

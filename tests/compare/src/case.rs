@@ -4,12 +4,12 @@
 use crate::calls::{self, Call, TABLE_BYTES};
 use crate::cells::{self, Worked};
 use crate::damage;
-use crate::draft::Draft;
 use crate::emptied;
 use crate::forms;
 use crate::groups;
 use crate::rng::Rng;
 use crate::shapes::{self, SHAPES};
+use crate::sketch::Sketch;
 
 pub struct Case {
     pub shape: &'static str,
@@ -17,6 +17,8 @@ pub struct Case {
     /// How many stages were drawn.
     pub states: usize,
     pub bytes: Vec<u8>,
+    /// The sheet before it was damaged.
+    pub sound: Vec<u8>,
     pub calls: Vec<Call>,
     /// The sheet as work with the largest budget leaves it, where that ends soon.
     pub worked: Option<Vec<u8>>,
@@ -27,47 +29,48 @@ pub fn make(seed: u64) -> Case {
     // Forms and their damage are drawn from numbers of their own, so that they change nothing else of a sheet.
     let mut of_forms = Rng::new(!seed);
     let (shape, draw) = SHAPES[shapes::draw(&mut rng)];
-    let mut draft = draw(&mut rng);
+    let mut sketch = draw(&mut rng);
     if rng.one_in(3) {
-        emptied::put(&mut draft, &mut rng);
+        emptied::put(&mut sketch, &mut rng);
     }
-    if draft.kind == 1 && rng.one_in(2) {
-        groups::put(&mut draft, &mut rng);
+    if sketch.kind == 1 && rng.one_in(2) {
+        groups::put(&mut sketch, &mut rng);
     }
-    forms::put(&mut draft, &mut of_forms);
-    let filled = how_worked(&mut rng, shape, &draft);
-    cells::fill(&mut draft, &mut rng, filled);
-    let (in_draft, in_bytes) =
+    forms::put(&mut sketch, &mut of_forms);
+    let filled = how_worked(&mut rng, shape, &sketch);
+    cells::fill(&mut sketch, &mut rng, filled);
+    let (in_sketch, in_bytes) =
         rng.pick(&[(false, false), (false, false), (false, false), (true, false), (false, true), (true, true)]);
-    if in_draft {
-        damage::draft(&mut draft, &mut rng);
+    let sound = sketch.bytes();
+    if in_sketch {
+        damage::sketch(&mut sketch, &mut rng);
     }
-    let in_numbers = forms::draft(&mut draft, &mut of_forms, in_draft || in_bytes);
-    let mut bytes = draft.bytes();
+    let in_numbers = forms::sketch(&mut sketch, &mut of_forms, in_sketch || in_bytes);
+    let mut bytes = sketch.bytes();
     if in_bytes {
         damage::bytes(&mut bytes, &mut rng);
     }
     let in_tags = forms::bytes(&mut bytes, &mut of_forms);
     let mut calls: Vec<Call> = (0..rng.between(1, 5)).map(|_| calls::draw(&mut rng)).collect();
-    let states = draft.states.len();
+    let states = sketch.states.len();
     let most = most_raises(states);
     let worked = worked_within(&bytes, most);
     if worked.is_none() {
         calls.iter_mut().for_each(|call| call.budget = call.budget.min(most));
     }
-    let damaged = in_draft || in_bytes || in_numbers || in_tags;
-    Case { shape, damaged, states, bytes, calls, worked }
+    let damaged = in_sketch || in_bytes || in_numbers || in_tags;
+    Case { shape, damaged, states, bytes, sound, calls, worked }
 }
 
 /// Large sheets are worked nearly to their end, or visits would never get far into them; those with repeats, or with a junction without
 /// checks, more often than others.
-fn how_worked(rng: &mut Rng, shape: &str, draft: &Draft) -> Worked {
+fn how_worked(rng: &mut Rng, shape: &str, sketch: &Sketch) -> Worked {
     use Worked::*;
     match shape {
         "deep chain" | "chain at the ceiling" => rng.pick(&[Blank, Near, Dented, Dented, Optimal, Optimal]),
         "sums at the ceiling" | "none beside the ceiling" => rng.pick(&[Blank, Low, Near, Dented, Optimal]),
         "full size" | "many stages" => rng.pick(&[Blank, Low, Near, Dented, Optimal]),
-        _ if groups::any(draft) || emptied::any(draft) => rng.pick(&[Blank, Blank, Low, Near, Dented, Optimal, Optimal]),
+        _ if groups::any(sketch) || emptied::any(sketch) => rng.pick(&[Blank, Blank, Low, Near, Dented, Optimal, Optimal]),
         _ => rng.pick(&[Blank, Blank, Blank, Low, Near, Dented, Optimal]),
     }
 }

@@ -1,11 +1,11 @@
 //! Values, marks and chosen checks of a sheet that has been worked to some extent: questions 5, 7 and 8 hold by the way they are made.
 
-use crate::draft::{Draft, Node, AT_CEILING, NONE};
 use crate::rng::Rng;
+use crate::sketch::{Node, Sketch, AT_CEILING, NONE};
 
 #[derive(Clone, Copy)]
 pub enum Worked {
-    /// As drafted: values 0 and open, for nearly all shapes.
+    /// As sketched: values 0 and open, for nearly all shapes.
     Blank,
     /// Values anywhere below what is allowed.
     Low,
@@ -22,29 +22,29 @@ const ONE_DENT_IN: usize = 60;
 const MOST_DENTS: usize = 20;
 
 /// From the last state backwards: a value up to what its successors' values allow, then perhaps a mark.
-pub fn fill(draft: &mut Draft, rng: &mut Rng, worked: Worked) {
+pub fn fill(sketch: &mut Sketch, rng: &mut Rng, worked: Worked) {
     if let Worked::Blank = worked {
         return;
     }
     let marked_in_eight = rng.pick(&[0, 4, 7, 8]);
-    let one_dent_in = ONE_DENT_IN.max(draft.states.len() / MOST_DENTS);
-    for state in (0..draft.states.len()).rev() {
-        let top = draft.top(state);
-        draft.states[state].value = match worked {
-            Worked::Low if draft.emptied(state) => anything(rng),
+    let one_dent_in = ONE_DENT_IN.max(sketch.states.len() / MOST_DENTS);
+    for state in (0..sketch.states.len()).rev() {
+        let top = sketch.top(state);
+        sketch.states[state].value = match worked {
+            Worked::Low if sketch.emptied(state) => anything(rng),
             _ => value(rng, worked, top, one_dent_in),
         };
         if rng.below(8) < marked_in_eight {
-            mark(draft, rng, state);
+            mark(sketch, rng, state);
         }
     }
 }
 
 /// Every value at the least cost, and every state marked.
-pub fn finish(draft: &mut Draft, rng: &mut Rng) {
-    for state in (0..draft.states.len()).rev() {
-        draft.states[state].value = draft.top(state);
-        mark(draft, rng, state);
+pub fn finish(sketch: &mut Sketch, rng: &mut Rng) {
+    for state in (0..sketch.states.len()).rev() {
+        sketch.states[state].value = sketch.top(state);
+        mark(sketch, rng, state);
     }
 }
 
@@ -67,23 +67,23 @@ fn anything(rng: &mut Rng) -> u32 {
 }
 
 /// Marks a state if its value has earned it, with any check that passes as the chosen one.
-fn mark(draft: &mut Draft, rng: &mut Rng, state: usize) {
-    let value = draft.states[state].value;
-    let passing: Vec<usize> = match &draft.states[state].node {
+fn mark(sketch: &mut Sketch, rng: &mut Rng, state: usize) {
+    let value = sketch.states[state].value;
+    let passing: Vec<usize> = match &sketch.states[state].node {
         Node::Terminal(cost) if value == *cost => vec![0],
         Node::Terminal(_) => Vec::new(),
         Node::Decision(actions) if actions.is_empty() && value == NONE => vec![0],
         Node::Decision(actions) => {
-            let solved = |t: &u16| draft.states[usize::from(*t)].mark == 1;
+            let solved = |t: &u16| sketch.states[usize::from(*t)].mark == 1;
             let passes = |i: &usize| {
                 let action = &actions[*i];
-                draft.price(action) == u64::from(value) && action.successors.iter().all(solved)
+                sketch.price(action) == u64::from(value) && action.successors.iter().all(solved)
             };
             (0..actions.len()).filter(passes).collect()
         }
     };
     if !passing.is_empty() {
-        draft.states[state].chosen = rng.pick(&passing) as u8;
-        draft.states[state].mark = 1;
+        sketch.states[state].chosen = rng.pick(&passing) as u8;
+        sketch.states[state].mark = 1;
     }
 }

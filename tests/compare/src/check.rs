@@ -2,8 +2,8 @@
 
 use crate::calls::{Call, ENTRY_BYTES, FORMER_TABLE_BYTES, TABLE_BYTES};
 use crate::coverage::Coverage;
-use crate::draft::{FEW_STATES, FORMER_MOST, MOST_STATES};
 use crate::lent::Lent;
+use crate::sketch::{FEW_STATES, FORMER_MOST, MOST_STATES};
 use crate::{counted, none, none_refused, repeats};
 use sweep::{meant, written, Action, Cost, Node, Sheet, CEILING};
 
@@ -81,14 +81,19 @@ pub fn one(bytes: &mut [u8], call: &Call) -> Result<Answer, String> {
     })
 }
 
-fn same(what: &str, found: &[u8], expected: &[u8]) -> Result<(), String> {
-    match (0..expected.len()).find(|&i| found[i] != expected[i]) {
+/// The error has the first byte that differs.
+pub fn same(what: &str, found: &[u8], expected: &[u8]) -> Result<(), String> {
+    if found == expected {
+        return Ok(());
+    }
+    match found.iter().zip(expected).position(|(found, expected)| found != expected) {
         Some(i) => Err(format!("{what}: byte {i} is {}, expected {}", found[i], expected[i])),
-        None => Ok(()),
+        None => Err(format!("{what}: {} bytes, expected {}", found.len(), expected.len())),
     }
 }
 
-fn number64(bytes: &[u8], at: usize) -> u64 {
+/// Eight bytes, the least significant first.
+pub fn number64(bytes: &[u8], at: usize) -> u64 {
     u64::from_le_bytes(bytes[at..at + 8].try_into().expect("eight bytes"))
 }
 

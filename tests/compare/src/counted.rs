@@ -1,16 +1,16 @@
 //! Counted junctions (S3.6): that the loss of a check is found (S8.18), and what the sheets had. All is taken from the sheets, not from how
 //! they were drawn or damaged.
 
+use crate::blocks::stages;
 use crate::calls::Call;
 use crate::check::{one, refusal_by_sweep, settled};
 use crate::coverage::Coverage;
 use crate::damage::places;
-use crate::draft::{FEW_STATES, MOST_STATES};
+use crate::sketch::{FEW_STATES, MOST_STATES};
 use sweep::{Node, Sheet, CEILING, NONE};
 
-/// Tag and length of a counted junction, and the tag of a check.
+/// Tag and length of a counted junction.
 const COUNTED: [u8; 3] = [5, 0, 7];
-const CHECK_TAG: u8 = 4;
 
 /// Where a counted junction's number stands in its field.
 const NUMBER_IN: usize = 9;
@@ -52,11 +52,6 @@ fn without(bytes: &[u8], state: usize, check: usize) -> Vec<u8> {
     let mut behind = places(bytes).into_iter().chain([bytes.len()]).filter(|&at| at > own).skip(check);
     let (from, to) = (behind.next().unwrap_or(bytes.len()), behind.next().unwrap_or(bytes.len()));
     [&bytes[..from], &bytes[to..]].concat()
-}
-
-/// Where the fields behind the head stand that are no check's.
-fn stages(bytes: &[u8]) -> Vec<usize> {
-    places(bytes).into_iter().skip(1).filter(|&at| bytes[at] != CHECK_TAG).collect()
 }
 
 fn counted(sheet: &Sheet) -> impl Iterator<Item = usize> + '_ {
@@ -213,8 +208,8 @@ mod tests {
     use super::{count, count_refused, losses, without};
     use crate::calls::TABLE_BYTES;
     use crate::coverage::Coverage;
-    use crate::draft::{Draft, Form, NONE};
     use crate::rows::{but, counted_with_checks, sheet_a, sheet_f, sheet_j};
+    use crate::sketch::{Form, Sketch, NONE};
     use sweep::Sheet;
 
     fn accepted(bytes: &[u8]) -> Sheet {
@@ -226,8 +221,8 @@ mod tests {
     }
 
     /// What is counted of a sheet that is worked with so large a budget.
-    fn worked(draft: &Draft, budget: u64) -> String {
-        let outset = draft.bytes();
+    fn worked(sketch: &Sketch, budget: u64) -> String {
+        let outset = sketch.bytes();
         let mut bytes = outset.clone();
         procedure::call(&mut bytes, &mut [0; TABLE_BYTES], budget, &mut [0; 24]);
         let mut seen = Coverage::default();
@@ -307,8 +302,8 @@ mod tests {
     }
 
     /// The sheet with another byte at a place.
-    fn with(draft: Draft, place: usize, byte: u8) -> Vec<u8> {
-        let mut bytes = draft.bytes();
+    fn with(sketch: Sketch, place: usize, byte: u8) -> Vec<u8> {
+        let mut bytes = sketch.bytes();
         bytes[place] = byte;
         bytes
     }

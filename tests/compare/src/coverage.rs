@@ -1,5 +1,7 @@
 //! Counts of what the generated sheets and calls had, so that nobody has to trust that they had it.
 
+use crate::draft_calls::{Which, BOTH};
+use crate::draft_refusals::ASKED;
 use std::collections::BTreeMap;
 
 /// A long run must have each of these.
@@ -158,6 +160,118 @@ const WANTED: [&str; 152] = [
     "refused 10: beside plain junctions",
 ];
 
+/// And each of these of drafts.
+const WANTED_OF_DRAFTS: [&str; 63] = [
+    "draft: 17 bytes",
+    "draft: 4,096 stages",
+    "draft: 60,000 bytes",
+    "draft: a junction without checks",
+    "draft: a least cost above 64 bits",
+    "draft: a least cost above the ceiling",
+    "draft: a least cost of none",
+    "draft: another chosen check than the first",
+    "draft: another order than in rounds from 0 up",
+    "draft: another stage than the start is placed first",
+    "draft: counted junctions only",
+    "draft: findings below their junction's number",
+    "draft: findings listed several times",
+    "draft: findings listed several times that are sorted anew",
+    "draft: findings that are sorted anew",
+    "draft: junctions of both forms",
+    "draft: more than 256 stages",
+    "draft: numbered in any order",
+    "draft: numbered in order already",
+    "draft: numbered in reverse order",
+    "draft: numbered to and fro between the ends",
+    "draft: partly worked",
+    "draft: refused 3 by work",
+    "draft: settled",
+    "draft: stages that the start does not reach",
+    "draft: the start gets another number",
+    "draft: whole",
+    "draft: worst",
+    "restored: none",
+    "restored: over",
+    "restored: raised by work under another number, and open still",
+    "restored: rearranged again",
+    "restored: settled by another check than the first",
+    "restored: settled by work under another number",
+    "restored: settled whole",
+    "restored: settled worst",
+    "restored: something stands behind the stages in the list",
+    "restored: stopped",
+    "restored: the plan of a junction that work settled costs the price",
+    "restore: findings that do not lead on, and nothing else",
+    "restore: the sheet stands in the list",
+    "circle: among more than 1,000 stages",
+    "circle: not reached from the start",
+    "circle: nothing can be placed",
+    "circle: of 100 stages or more",
+    "circle: of 4 to 99 stages",
+    "circle: of all stages, four or more",
+    "circle: of high numbers",
+    "circle: of low numbers",
+    "circle: of one stage",
+    "circle: of three stages",
+    "circle: of two stages",
+    "circle: reached from the start",
+    "circle: some stages can be placed",
+    "circle: whole",
+    "circle: worst",
+    "list: a number is repeated",
+    "list: right but for its highest bit",
+    "list: right but for its upper half",
+    "list: the largest number",
+    "list: the number of stages",
+    "list: the same number everywhere",
+    "list: what is missing stands behind the stages",
+];
+
+/// Wanted of the rearranger and of the inverse, behind the call's name.
+const WANTED_OF_BOTH_CALLS: [&str; 41] = [
+    "done",
+    "refused 1",
+    "refused 2",
+    "refused 3",
+    "refused 4",
+    "refused 5",
+    "refused 6",
+    "refused 7",
+    "refused 8",
+    "refused 10",
+    "refused 11",
+    "a finding that is no stage",
+    "findings that do not ascend",
+    "equal findings of a worst sheet",
+    "damaged bytes, done",
+    "damaged bytes, refused",
+    "the other call's tag",
+    "the tag of neither",
+    "a sheet of no bytes",
+    "a sheet of 16 bytes",
+    "a sheet of 17 bytes",
+    "a sheet of 60,000 bytes",
+    "a sheet of 60,001 bytes",
+    "table empty",
+    "table of less than an entry",
+    "table up to four bytes too short",
+    "table just long enough",
+    "table with one to three bytes left over",
+    "table of one entry more",
+    "table of many entries more",
+    "list empty",
+    "list of less than an entry",
+    "list up to four bytes too short",
+    "list just long enough",
+    "list with one to three bytes left over",
+    "list of one entry more",
+    "list of many entries more",
+    "output empty",
+    "output one byte too short",
+    "output just long enough",
+    "output longer",
+];
+
 /// Wanted too where a `price` program is given.
 const WANTED_OF_PRICE: [&str; 15] = [
     "price: settled",
@@ -206,6 +320,11 @@ impl Coverage {
     /// What a long run of so many sheets should have had and had not.
     pub fn missing(&self, sheets: u64, with_price: bool) -> Vec<String> {
         let mut missing = self.never(&WANTED);
+        missing.extend(self.never(&WANTED_OF_DRAFTS));
+        for which in BOTH {
+            missing.extend(self.never(&WANTED_OF_BOTH_CALLS.map(|name| format!("{which}: {name}"))));
+            missing.extend(self.never(&in_order(which)));
+        }
         if with_price {
             missing.extend(self.never(&WANTED_OF_PRICE));
             missing.extend(self.seldom(&OFTEN, sheets));
@@ -213,8 +332,8 @@ impl Coverage {
         missing
     }
 
-    fn never(&self, names: &[&str]) -> Vec<String> {
-        let none = names.iter().filter(|name| self.count(name) == 0);
+    fn never(&self, names: &[impl AsRef<str>]) -> Vec<String> {
+        let none = names.iter().map(AsRef::as_ref).filter(|name| self.count(name) == 0);
         none.map(|name| format!("no sheet had: {name}")).collect()
     }
 
@@ -226,4 +345,11 @@ impl Coverage {
     fn count(&self, name: &str) -> u64 {
         self.0.get(name).copied().unwrap_or(0)
     }
+}
+
+/// Of every two questions that a call puts, the first refuses where both are answered no.
+pub fn in_order(which: Which) -> Vec<String> {
+    let later =
+        |place: usize| ASKED[place + 1..].iter().map(move |later| format!("{which}: refused {} before {later}", ASKED[place]));
+    (0..ASKED.len()).flat_map(later).collect()
 }

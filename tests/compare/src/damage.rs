@@ -1,13 +1,13 @@
-//! Damage. Each question is tried on both sides of its boundary, in the draft; then bytes are flipped, cut off and added.
+//! Damage. Each question is tried on both sides of its boundary, in the sketch; then bytes are flipped, cut off and added.
 
-use crate::draft::{Action, Draft, Form, Node, FEW_STATES, FORMER_MOST, MOST_STATES};
 use crate::rng::Rng;
+use crate::sketch::{Action, Form, Node, Sketch, FEW_STATES, FORMER_MOST, MOST_STATES};
 use crate::{emptied, groups, none_damage};
 
-type InDraft = fn(&mut Draft, &mut Rng);
+type InSketch = fn(&mut Sketch, &mut Rng);
 
-/// Damages of a draft, in the order of the questions that they are about. The late ones stand there more than once: they miss often.
-const IN_DRAFT: [InDraft; 22] = [
+/// Damages of a sketch, in the order of the questions that they are about. The late ones stand there more than once: they miss often.
+const IN_SKETCH: [InSketch; 22] = [
     kind,
     count,
     start,
@@ -33,21 +33,21 @@ const IN_DRAFT: [InDraft; 22] = [
 ];
 
 /// Where findings are listed several times, it is mostly one of these.
-const OF_REPEATS: [InDraft; 5] = [finding_bounds, finding_order, finding_order, value_miscounted, value_miscounted];
+const OF_REPEATS: [InSketch; 5] = [finding_bounds, finding_order, finding_order, value_miscounted, value_miscounted];
 
 /// Damages of bytes.
 const IN_BYTES: [fn(&mut Vec<u8>, &mut Rng); 7] = [flip, cut, extend, size_limits, tag, length, repeat_field];
 
-/// One damage of the draft, or several: the first question that is answered no decides.
-pub fn draft(draft: &mut Draft, rng: &mut Rng) {
-    if emptied::any(draft) && !rng.one_in(4) {
-        return none_damage::draft(draft, rng);
+/// One damage of the sketch, or several: the first question that is answered no decides.
+pub fn sketch(sketch: &mut Sketch, rng: &mut Rng) {
+    if emptied::any(sketch) && !rng.one_in(4) {
+        return none_damage::sketch(sketch, rng);
     }
-    if groups::any(draft) && !rng.one_in(4) {
-        return rng.pick(&OF_REPEATS)(draft, rng);
+    if groups::any(sketch) && !rng.one_in(4) {
+        return rng.pick(&OF_REPEATS)(sketch, rng);
     }
     for _ in 0..rng.pick(&[1, 1, 2, 3, 6]) {
-        rng.pick(&IN_DRAFT)(draft, rng);
+        rng.pick(&IN_SKETCH)(sketch, rng);
     }
 }
 
@@ -60,38 +60,38 @@ pub fn bytes(bytes: &mut Vec<u8>, rng: &mut Rng) {
 
 // Question 3.
 
-fn kind(draft: &mut Draft, rng: &mut Rng) {
-    draft.kind = rng.pick(&[0, 1, 2, 255]);
+fn kind(sketch: &mut Sketch, rng: &mut Rng) {
+    sketch.kind = rng.pick(&[0, 1, 2, 255]);
 }
 
-fn count(draft: &mut Draft, rng: &mut Rng) {
-    let count = draft.states.len() as u16;
+fn count(sketch: &mut Sketch, rng: &mut Rng) {
+    let count = sketch.states.len() as u16;
     let [few, former, most] = [FEW_STATES, FORMER_MOST, MOST_STATES].map(|states| states as u16);
-    draft.count = rng.pick(&[0, 1, count - 1, count + 1, few, few + 1, former, former + 1, most, most + 1, u16::MAX]);
+    sketch.count = rng.pick(&[0, 1, count - 1, count + 1, few, few + 1, former, former + 1, most, most + 1, u16::MAX]);
 }
 
-fn start(draft: &mut Draft, rng: &mut Rng) {
-    let count = draft.states.len() as u16;
-    draft.start = rng.pick(&[count - 1, count, count + 1, u16::MAX]);
+fn start(sketch: &mut Sketch, rng: &mut Rng) {
+    let count = sketch.states.len() as u16;
+    sketch.start = rng.pick(&[count - 1, count, count + 1, u16::MAX]);
 }
 
 // Question 4.
 
 /// 0 to 16 checks are as many as a junction may have. A counted one writes their number every other time.
-fn number_of_checks(draft: &mut Draft, rng: &mut Rng) {
+fn number_of_checks(sketch: &mut Sketch, rng: &mut Rng) {
     let wanted = rng.pick(&[0, 1, 15, 16, 17, 18]);
-    let Some((number, actions)) = decision(draft, rng) else { return };
+    let Some((number, actions)) = decision(sketch, rng) else { return };
     let last = actions[actions.len() - 1].clone();
     actions.resize(wanted, last);
-    if draft.counted(number) && rng.one_in(2) {
-        draft.states[number].form = Form::Counted(wanted as u8);
+    if sketch.counted(number) && rng.one_in(2) {
+        sketch.states[number].form = Form::Counted(wanted as u8);
     }
 }
 
-fn number_of_findings(draft: &mut Draft, rng: &mut Rng) {
+fn number_of_findings(sketch: &mut Sketch, rng: &mut Rng) {
     let wanted = rng.pick(&[0, 1, 15, 16, 17, 18]);
-    let states = draft.states.len();
-    let Some((number, actions)) = decision(draft, rng) else { return };
+    let states = sketch.states.len();
+    let Some((number, actions)) = decision(sketch, rng) else { return };
     let place = rng.below(actions.len());
     let successors = &mut actions[place].successors;
     let first = (number + 1).min(states.saturating_sub(wanted));
@@ -100,46 +100,46 @@ fn number_of_findings(draft: &mut Draft, rng: &mut Rng) {
 
 // Question 5.
 
-fn check_cost(draft: &mut Draft, rng: &mut Rng) {
+fn check_cost(sketch: &mut Sketch, rng: &mut Rng) {
     let cost = rng.pick(&[0, 1, 1_000_000, 1_000_001, u32::MAX]);
-    if let Some((_, actions)) = decision(draft, rng) {
+    if let Some((_, actions)) = decision(sketch, rng) {
         let place = rng.below(actions.len());
         actions[place].cost = cost;
     }
 }
 
-fn ending_cost(draft: &mut Draft, rng: &mut Rng) {
+fn ending_cost(sketch: &mut Sketch, rng: &mut Rng) {
     let wanted = rng.pick(&[0, 1_000_000, 1_000_001, u32::MAX]);
-    let number = rng.below(draft.states.len());
-    if let Node::Terminal(cost) = &mut draft.states[number].node {
+    let number = rng.below(sketch.states.len());
+    if let Node::Terminal(cost) = &mut sketch.states[number].node {
         *cost = wanted;
     }
 }
 
-fn value_range(draft: &mut Draft, rng: &mut Rng) {
-    let number = rng.below(draft.states.len());
-    draft.states[number].value = rng.pick(&[0, 999_999_999, 1_000_000_000, 1_000_000_001, 1_000_000_002, u32::MAX]);
+fn value_range(sketch: &mut Sketch, rng: &mut Rng) {
+    let number = rng.below(sketch.states.len());
+    sketch.states[number].value = rng.pick(&[0, 999_999_999, 1_000_000_000, 1_000_000_001, 1_000_000_002, u32::MAX]);
 }
 
-fn mark_range(draft: &mut Draft, rng: &mut Rng) {
-    let number = rng.below(draft.states.len());
-    draft.states[number].mark = rng.pick(&[0, 1, 2, 255]);
+fn mark_range(sketch: &mut Sketch, rng: &mut Rng) {
+    let number = rng.below(sketch.states.len());
+    sketch.states[number].mark = rng.pick(&[0, 1, 2, 255]);
 }
 
-fn chosen_range(draft: &mut Draft, rng: &mut Rng) {
-    let number = rng.below(draft.states.len());
-    if let Node::Decision(actions) = &draft.states[number].node {
+fn chosen_range(sketch: &mut Sketch, rng: &mut Rng) {
+    let number = rng.below(sketch.states.len());
+    if let Node::Decision(actions) = &sketch.states[number].node {
         let count = actions.len() as u8;
-        draft.states[number].chosen = rng.pick(&[0, 1, count.saturating_sub(1), count, 255]);
+        sketch.states[number].chosen = rng.pick(&[0, 1, count.saturating_sub(1), count, 255]);
     }
 }
 
 // Question 6.
 
 /// The first findings at their junction's number, or the last at the number of stages; or just within.
-fn finding_bounds(draft: &mut Draft, rng: &mut Rng) {
-    let (states, room) = (draft.states.len() as u16, groups::room(draft));
-    let Some((number, successors)) = findings(draft, rng, |_| true) else { return };
+fn finding_bounds(sketch: &mut Sketch, rng: &mut Rng) {
+    let (states, room) = (sketch.states.len() as u16, groups::room(sketch));
+    let Some((number, successors)) = findings(sketch, rng, |_| true) else { return };
     let own = number as u16;
     if rng.one_in(2) {
         groups::repeat(successors, rng, room);
@@ -154,17 +154,17 @@ fn finding_bounds(draft: &mut Draft, rng: &mut Rng) {
 }
 
 /// Equal findings side by side, which only a worst sheet is refused for.
-fn finding_repeated(draft: &mut Draft, rng: &mut Rng) {
-    let room = groups::room(draft);
-    if let Some((_, successors)) = findings(draft, rng, |_| true) {
+fn finding_repeated(sketch: &mut Sketch, rng: &mut Rng) {
+    let room = groups::room(sketch);
+    if let Some((_, successors)) = findings(sketch, rng, |_| true) {
         groups::repeat(successors, rng, room);
     }
 }
 
 /// Two findings change places, or those that are smaller than one go behind it: equal ones come apart, or stand before a smaller one.
-fn finding_order(draft: &mut Draft, rng: &mut Rng) {
-    let room = groups::room(draft);
-    let Some((_, successors)) = findings(draft, rng, |list| list.first() != list.last()) else { return };
+fn finding_order(sketch: &mut Sketch, rng: &mut Rng) {
+    let room = groups::room(sketch);
+    let Some((_, successors)) = findings(sketch, rng, |list| list.first() != list.last()) else { return };
     if rng.one_in(2) {
         groups::repeat(successors, rng, room);
     }
@@ -178,9 +178,9 @@ fn finding_order(draft: &mut Draft, rng: &mut Rng) {
 }
 
 /// The findings of a check that has any and is wanted, and its junction's number, at random.
-fn findings<'a>(draft: &'a mut Draft, rng: &mut Rng, wanted: fn(&[u16]) -> bool) -> Option<(usize, &'a mut Vec<u16>)> {
+fn findings<'a>(sketch: &'a mut Sketch, rng: &mut Rng, wanted: fn(&[u16]) -> bool) -> Option<(usize, &'a mut Vec<u16>)> {
     let mut all = Vec::new();
-    for (number, state) in draft.states.iter_mut().enumerate() {
+    for (number, state) in sketch.states.iter_mut().enumerate() {
         let Node::Decision(actions) = &mut state.node else { continue };
         for Action { successors, .. } in actions {
             if !successors.is_empty() && wanted(successors) {
@@ -197,44 +197,44 @@ fn findings<'a>(draft: &'a mut Draft, rng: &mut Rng, wanted: fn(&[u16]) -> bool)
 
 // Questions 7 and 8. Prices are asked only where every successor is there.
 
-fn value_above(draft: &mut Draft, rng: &mut Rng) {
-    let number = rng.below(draft.states.len());
-    let Some(top) = top(draft, number) else { return };
-    draft.states[number].value = top + rng.pick(&[0, 1, 1, 100]);
+fn value_above(sketch: &mut Sketch, rng: &mut Rng) {
+    let number = rng.below(sketch.states.len());
+    let Some(top) = top(sketch, number) else { return };
+    sketch.states[number].value = top + rng.pick(&[0, 1, 1, 100]);
 }
 
 /// The value of a junction, a settled one if there is any, as if a finding that its chosen check repeats were listed once more or once
 /// less. Stages before it become unworked: they may lead to it, and would be wrong too.
-fn value_miscounted(draft: &mut Draft, rng: &mut Rng) {
-    let repeating: Vec<usize> = (0..draft.states.len()).filter(|&s| repeated(draft, s).is_some()).collect();
-    let settled: Vec<usize> = repeating.iter().copied().filter(|&s| draft.states[s].mark == 1).collect();
+fn value_miscounted(sketch: &mut Sketch, rng: &mut Rng) {
+    let repeating: Vec<usize> = (0..sketch.states.len()).filter(|&s| repeated(sketch, s).is_some()).collect();
+    let settled: Vec<usize> = repeating.iter().copied().filter(|&s| sketch.states[s].mark == 1).collect();
     let drawn = if settled.is_empty() { repeating } else { settled };
     if drawn.is_empty() {
         return;
     }
     let number = rng.pick(&drawn);
-    let (Some(_), Some((action, finding))) = (top(draft, number), repeated(draft, number)) else { return };
-    let (price, each) = (draft.price(action) as u32, draft.states[usize::from(finding)].value);
-    draft.states[number].value = if rng.one_in(3) { price.saturating_add(each) } else { price.saturating_sub(each) };
-    for state in &mut draft.states[..number] {
+    let (Some(_), Some((action, finding))) = (top(sketch, number), repeated(sketch, number)) else { return };
+    let (price, each) = (sketch.price(action) as u32, sketch.states[usize::from(finding)].value);
+    sketch.states[number].value = if rng.one_in(3) { price.saturating_add(each) } else { price.saturating_sub(each) };
+    for state in &mut sketch.states[..number] {
         (state.value, state.mark, state.chosen) = (0, 0, 0);
     }
 }
 
 /// A junction's chosen check, and the first finding that it repeats and that has a value.
-fn repeated(draft: &Draft, number: usize) -> Option<(&Action, u16)> {
-    let state = &draft.states[number];
+fn repeated(sketch: &Sketch, number: usize) -> Option<(&Action, u16)> {
+    let state = &sketch.states[number];
     let Node::Decision(actions) = &state.node else { return None };
     let action = actions.get(usize::from(state.chosen))?;
-    let valued = |t: u16| draft.states.get(usize::from(t)).is_some_and(|state| state.value > 0);
+    let valued = |t: u16| sketch.states.get(usize::from(t)).is_some_and(|state| state.value > 0);
     let pair = action.successors.windows(2).find(|pair| pair[0] == pair[1] && valued(pair[0]))?;
     Some((action, pair[0]))
 }
 
-fn mark_unearned(draft: &mut Draft, rng: &mut Rng) {
-    let number = rng.below(draft.states.len());
-    let Some(top) = top(draft, number) else { return };
-    let state = &mut draft.states[number];
+fn mark_unearned(sketch: &mut Sketch, rng: &mut Rng) {
+    let number = rng.below(sketch.states.len());
+    let Some(top) = top(sketch, number) else { return };
+    let state = &mut sketch.states[number];
     match rng.below(4) {
         0 => state.mark = 1,
         1 => state.mark = 0,
@@ -249,19 +249,19 @@ fn mark_unearned(draft: &mut Draft, rng: &mut Rng) {
     }
 }
 
-fn top(draft: &Draft, number: usize) -> Option<u32> {
-    let states = draft.states.len();
-    let there = match &draft.states[number].node {
+fn top(sketch: &Sketch, number: usize) -> Option<u32> {
+    let states = sketch.states.len();
+    let there = match &sketch.states[number].node {
         Node::Terminal(_) => true,
         Node::Decision(actions) => actions.iter().flat_map(|a| &a.successors).all(|&t| usize::from(t) < states),
     };
-    there.then(|| draft.top(number).min(u32::MAX - 100))
+    there.then(|| sketch.top(number).min(u32::MAX - 100))
 }
 
 /// A decision with actions, at random, if the state that is drawn is one.
-fn decision<'a>(draft: &'a mut Draft, rng: &mut Rng) -> Option<(usize, &'a mut Vec<Action>)> {
-    let number = rng.below(draft.states.len());
-    match &mut draft.states[number].node {
+fn decision<'a>(sketch: &'a mut Sketch, rng: &mut Rng) -> Option<(usize, &'a mut Vec<Action>)> {
+    let number = rng.below(sketch.states.len());
+    match &mut sketch.states[number].node {
         Node::Decision(actions) if !actions.is_empty() => Some((number, actions)),
         _ => None,
     }

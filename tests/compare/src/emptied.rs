@@ -1,89 +1,89 @@
 //! Junctions that have no check left (S1.2), put into a drawn sheet.
 
-use crate::draft::{Action, Draft, Node};
 use crate::groups;
 use crate::rng::Rng;
+use crate::sketch::{Action, Node, Sketch};
 
 /// The most findings of a check (S3.2).
 const MOST_FINDINGS: usize = 16;
 
-type Way = fn(&mut Draft, &mut Rng);
+type Way = fn(&mut Sketch, &mut Rng);
 
 /// Where they stand. Checks that lead to them, and others that do not, have the most to show.
 const WAYS: [Way; 11] =
     [start, last, last, anywhere, several, several, one_check, one_check, one_check, every_check, every_check];
 
 /// One to three ways at once.
-pub fn put(draft: &mut Draft, rng: &mut Rng) {
+pub fn put(sketch: &mut Sketch, rng: &mut Rng) {
     for _ in 0..rng.pick(&[1, 1, 1, 2, 3]) {
-        rng.pick(&WAYS)(draft, rng);
+        rng.pick(&WAYS)(sketch, rng);
     }
 }
 
 /// Has the sheet a junction without checks?
-pub fn any(draft: &Draft) -> bool {
-    (0..draft.states.len()).any(|state| draft.emptied(state))
+pub fn any(sketch: &Sketch) -> bool {
+    (0..sketch.states.len()).any(|state| sketch.emptied(state))
 }
 
 /// A stage becomes a junction without checks. Its value stays, and may be any.
-fn empty(draft: &mut Draft, state: usize) {
-    draft.states[state].node = Node::Decision(Vec::new());
+fn empty(sketch: &mut Sketch, state: usize) {
+    sketch.states[state].node = Node::Decision(Vec::new());
 }
 
-fn start(draft: &mut Draft, _: &mut Rng) {
-    empty(draft, usize::from(draft.start));
+fn start(sketch: &mut Sketch, _: &mut Rng) {
+    empty(sketch, usize::from(sketch.start));
 }
 
 /// Where the sheet is a chain, none climbs from its end to its start.
-fn last(draft: &mut Draft, _: &mut Rng) {
-    empty(draft, draft.states.len() - 1);
+fn last(sketch: &mut Sketch, _: &mut Rng) {
+    empty(sketch, sketch.states.len() - 1);
 }
 
-fn anywhere(draft: &mut Draft, rng: &mut Rng) {
-    empty(draft, rng.below(draft.states.len()));
+fn anywhere(sketch: &mut Sketch, rng: &mut Rng) {
+    empty(sketch, rng.below(sketch.states.len()));
 }
 
 /// One stage in so many.
-fn several(draft: &mut Draft, rng: &mut Rng) {
+fn several(sketch: &mut Sketch, rng: &mut Rng) {
     let one_in = rng.pick(&[3, 20, 100, 500]);
-    for state in 0..draft.states.len() {
+    for state in 0..sketch.states.len() {
         if rng.one_in(one_in) {
-            empty(draft, state);
+            empty(sketch, state);
         }
     }
 }
 
 /// One check of a junction leads to it, among its findings, and the others do not.
-fn one_check(draft: &mut Draft, rng: &mut Rng) {
-    let Some(junction) = junction(draft, rng, 2) else { return };
-    let place = rng.below(draft.actions(junction).len());
-    let others = draft.actions(junction).iter().enumerate().filter(|(other, _)| *other != place);
+fn one_check(sketch: &mut Sketch, rng: &mut Rng) {
+    let Some(junction) = junction(sketch, rng, 2) else { return };
+    let place = rng.below(sketch.actions(junction).len());
+    let others = sketch.actions(junction).iter().enumerate().filter(|(other, _)| *other != place);
     let taken: Vec<u16> = others.flat_map(|(_, action)| &action.successors).copied().collect();
-    let own = draft.actions(junction)[place].successors.iter().copied();
-    let behind = (junction + 1..draft.states.len()).map(|state| state as u16);
+    let own = sketch.actions(junction)[place].successors.iter().copied();
+    let behind = (junction + 1..sketch.states.len()).map(|state| state as u16);
     let own: Vec<u16> = own.filter(|t| !taken.contains(t)).collect();
     let free: Vec<u16> = if own.is_empty() { behind.filter(|t| !taken.contains(t)).collect() } else { own };
     if !free.is_empty() {
         let finding = rng.pick(&free);
-        empty(draft, usize::from(finding));
-        lead(draft, junction, place, finding);
+        empty(sketch, usize::from(finding));
+        lead(sketch, junction, place, finding);
     }
 }
 
 /// Every check of a junction leads to it, wherever it stands among their findings.
-fn every_check(draft: &mut Draft, rng: &mut Rng) {
-    let Some(junction) = junction(draft, rng, 1) else { return };
-    let finding = rng.between(junction + 1, draft.states.len() - 1);
-    empty(draft, finding);
-    for place in 0..draft.actions(junction).len() {
-        lead(draft, junction, place, finding as u16);
+fn every_check(sketch: &mut Sketch, rng: &mut Rng) {
+    let Some(junction) = junction(sketch, rng, 1) else { return };
+    let finding = rng.between(junction + 1, sketch.states.len() - 1);
+    empty(sketch, finding);
+    for place in 0..sketch.actions(junction).len() {
+        lead(sketch, junction, place, finding as u16);
     }
 }
 
 /// A junction with so many checks or more: the start, or any.
-fn junction(draft: &Draft, rng: &mut Rng, checks: usize) -> Option<usize> {
-    let wanted: Vec<usize> = (0..draft.states.len()).filter(|&state| draft.actions(state).len() >= checks).collect();
-    let start = usize::from(draft.start);
+fn junction(sketch: &Sketch, rng: &mut Rng, checks: usize) -> Option<usize> {
+    let wanted: Vec<usize> = (0..sketch.states.len()).filter(|&state| sketch.actions(state).len() >= checks).collect();
+    let start = usize::from(sketch.start);
     if wanted.is_empty() {
         None
     } else if wanted.contains(&start) && rng.one_in(2) {
@@ -94,9 +94,9 @@ fn junction(draft: &Draft, rng: &mut Rng, checks: usize) -> Option<usize> {
 }
 
 /// A check gets one more finding, in its place; where check or sheet have no room, in the place of the next one.
-fn lead(draft: &mut Draft, junction: usize, place: usize, finding: u16) {
-    let room = groups::room(draft) >= 2;
-    let Node::Decision(actions) = &mut draft.states[junction].node else { return };
+fn lead(sketch: &mut Sketch, junction: usize, place: usize, finding: u16) {
+    let room = groups::room(sketch) >= 2;
+    let Node::Decision(actions) = &mut sketch.states[junction].node else { return };
     let successors = &mut actions[place].successors;
     let at = successors.partition_point(|&t| t < finding);
     if successors.contains(&finding) {
@@ -112,7 +112,7 @@ fn lead(draft: &mut Draft, junction: usize, place: usize, finding: u16) {
 
 /// A whole sheet whose costs double from stage to stage until they stand at the ceiling, as in sheet I (S11), and a junction without checks
 /// before or behind those stages. One of the start's checks adds some of them up; others lead to that junction, alone or beside them.
-pub fn beside_ceiling(rng: &mut Rng) -> Draft {
+pub fn beside_ceiling(rng: &mut Rng) -> Sketch {
     let summed = rng.pick(&[1, 2, 2, 4, 5, 9, 15]) as u16;
     let first = rng.pick(&[1, 2]);
     let ending = first + summed + rng.between(8, 10) as u16;
@@ -138,7 +138,7 @@ pub fn beside_ceiling(rng: &mut Rng) -> Draft {
     nodes.extend((first..ending).map(|stage| Node::Decision(vec![doubling(stage, ending)])));
     nodes.push(Node::Terminal(1_000_000));
     nodes.extend((ending..emptied).map(|_| Node::Decision(Vec::new())));
-    Draft::new(1, 0, nodes)
+    Sketch::new(1, 0, nodes)
 }
 
 /// The check of a stage whose findings are those behind it, up to the ending.

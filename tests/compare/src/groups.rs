@@ -1,8 +1,8 @@
 //! Groups of equal findings (S2.10), put into the checks of a drawn sheet.
 
-use crate::draft::{size, Draft, Node, HEAD_BYTES};
 use crate::rng::Rng;
 use crate::shapes::FULL;
+use crate::sketch::{size, Node, Sketch, HEAD_BYTES};
 
 /// The most findings of a check (S3.2).
 const MOST_FINDINGS: usize = 16;
@@ -11,10 +11,10 @@ const MOST_FINDINGS: usize = 16;
 const TIMES: [usize; 9] = [2, 2, 2, 3, 3, 5, 9, 15, 16];
 
 /// One to three groups, in one check of so many.
-pub fn put(draft: &mut Draft, rng: &mut Rng) {
+pub fn put(sketch: &mut Sketch, rng: &mut Rng) {
     let one_in = rng.pick(&[1, 2, 6]);
-    let mut left = room(draft);
-    for state in &mut draft.states {
+    let mut left = room(sketch);
+    for state in &mut sketch.states {
         let Node::Decision(actions) = &mut state.node else { continue };
         for action in actions {
             let groups = if rng.one_in(one_in) { rng.pick(&[1, 1, 2, 3]) } else { 0 };
@@ -26,17 +26,17 @@ pub fn put(draft: &mut Draft, rng: &mut Rng) {
 }
 
 /// Does a check of the sheet list a finding several times?
-pub fn any(draft: &Draft) -> bool {
-    draft.states.iter().any(|state| match &state.node {
+pub fn any(sketch: &Sketch) -> bool {
+    sketch.states.iter().any(|state| match &state.node {
         Node::Terminal(_) => false,
         Node::Decision(actions) => actions.iter().any(|action| action.successors.windows(2).any(|pair| pair[0] == pair[1])),
     })
 }
 
 /// The bytes that a sheet may grow by. A counted junction takes one more than a plain one.
-pub fn room(draft: &Draft) -> usize {
-    let bytes = HEAD_BYTES + draft.states.iter().map(|state| size(&state.node)).sum::<usize>();
-    let counted = (0..draft.states.len()).filter(|&state| draft.counted(state)).count();
+pub fn room(sketch: &Sketch) -> usize {
+    let bytes = HEAD_BYTES + sketch.states.iter().map(|state| size(&state.node)).sum::<usize>();
+    let counted = (0..sketch.states.len()).filter(|&state| sketch.counted(state)).count();
     FULL.saturating_sub(bytes + counted)
 }
 

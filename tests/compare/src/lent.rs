@@ -12,9 +12,11 @@ const BEHIND: usize = 64;
 
 impl Lent {
     pub fn new(content: &[u8], before: usize) -> Lent {
-        let mut bytes = vec![GUARD; before];
+        let length = before + content.len() + BEHIND;
+        let mut bytes = Vec::with_capacity(length);
+        bytes.resize(before, GUARD);
         bytes.extend(content);
-        bytes.resize(before + content.len() + BEHIND, GUARD);
+        bytes.resize(length, GUARD);
         Lent { bytes, before, length: content.len() }
     }
 

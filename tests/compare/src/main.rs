@@ -1,32 +1,46 @@
-//! Compares the static library with the programs `sweep` and `procedure` on generated and damaged sheets.
+//! Compares the static library with the programs `sweep`, `procedure` and `order` on generated and damaged sheets and drafts.
 //!
 //!     compare COUNT FIRST_SEED [PRICE_PROGRAM]
 //!
 //! Each seed makes one sheet and a list of calls on it. A failing case prints its seed; COUNT 1 and that seed make it again.
 
+mod arranged;
+mod blocks;
 mod calls;
 mod case;
 mod cells;
 mod check;
+mod circles;
 mod counted;
 mod coverage;
 mod damage;
 mod dearest;
-mod draft;
+mod draft_calls;
+mod draft_counts;
+mod draft_damage;
+mod draft_faults;
+mod draft_lengths;
+mod draft_refusals;
+mod draft_rows;
+mod draft_tags;
+mod drafts;
 mod emptied;
 mod forms;
 mod groups;
 mod lent;
 mod lines;
+mod lists;
 mod none;
 mod none_damage;
 mod none_refused;
+mod numbering;
 mod price;
 mod repeats;
 mod rng;
 mod rows;
 mod run;
 mod shapes;
+mod sketch;
 mod supervisor;
 mod worker;
 

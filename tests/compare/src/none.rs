@@ -3,8 +3,8 @@
 
 use crate::check::{settled, sum};
 use crate::coverage::Coverage;
-use crate::draft::FEW_STATES;
 use crate::repeats;
+use crate::sketch::FEW_STATES;
 use sweep::{Action, Sheet, CEILING, NONE};
 
 /// Of all calls that left the start settled (S8.14): they end none where no complete plan exists, over where one exists and the least cost
@@ -155,8 +155,8 @@ mod tests {
     use super::{count, outcomes};
     use crate::calls::TABLE_BYTES;
     use crate::coverage::Coverage;
-    use crate::draft::{Action, Draft, Node, AT_CEILING, NONE};
     use crate::rows::{sheet_f, sheet_g, sheet_h};
+    use crate::sketch::{Action, Node, Sketch, AT_CEILING, NONE};
     use sweep::Sheet;
 
     fn accepted(bytes: &[u8]) -> Sheet {
@@ -168,15 +168,15 @@ mod tests {
     }
 
     /// A junction with one check (1, findings 1, 2 and 3), of which this one has no checks; the others are endings that cost 5.
-    fn three_findings(emptied: usize) -> Draft {
+    fn three_findings(emptied: usize) -> Sketch {
         let mut nodes = vec![junction(&[(1, &[1, 2, 3])]), Node::Terminal(5), Node::Terminal(5), Node::Terminal(5)];
         nodes[emptied] = junction(&[]);
-        Draft::new(0, 0, nodes)
+        Sketch::new(0, 0, nodes)
     }
 
     /// What is counted of a sheet that is worked with so large a budget, but for the line that every such sheet has.
-    fn counted(draft: &Draft, budget: u64) -> String {
-        let outset = draft.bytes();
+    fn counted(sketch: &Sketch, budget: u64) -> String {
+        let outset = sketch.bytes();
         let mut bytes = outset.clone();
         procedure::call(&mut bytes, &mut [0; TABLE_BYTES], budget, &mut [0; 24]);
         let mut seen = Coverage::default();
@@ -207,9 +207,9 @@ mod tests {
     #[test]
     fn values_at_the_outset() {
         let from = |value| {
-            let mut draft = sheet_f();
-            draft.states[0].value = value;
-            counted(&draft, u64::MAX)
+            let mut sketch = sheet_f();
+            sketch.states[0].value = value;
+            counted(&sketch, u64::MAX)
         };
         let rest = "the start has no checks";
         assert_eq!(from(AT_CEILING), format!("partly worked at the outset; raised from the ceiling; {rest}"));
@@ -231,10 +231,10 @@ mod tests {
     /// One raise is allowed, and both endings want one.
     #[test]
     fn stopped_at_none() {
-        let mut draft = three_findings(2);
-        (draft.states[0].value, draft.states[2].value) = (NONE, NONE);
+        let mut sketch = three_findings(2);
+        (sketch.states[0].value, sketch.states[2].value) = (NONE, NONE);
         let before = "a stage in the middle has no checks; partly worked at the outset; settled without a raise";
-        assert_eq!(counted(&draft, 1), format!("{before}; stopped with the start at none"));
+        assert_eq!(counted(&sketch, 1), format!("{before}; stopped with the start at none"));
     }
 
     #[test]
@@ -253,7 +253,7 @@ mod tests {
     fn repeats_and_a_climb() {
         let mut nodes: Vec<Node> = (1..=5).map(|next| junction(&[(1, &[next, next])])).collect();
         nodes.push(junction(&[]));
-        let names = counted(&Draft::new(1, 0, nodes), u64::MAX);
+        let names = counted(&Sketch::new(1, 0, nodes), u64::MAX);
         assert!(names.contains("a finding listed several times") && names.contains("climbed five stages or more"), "{names}");
     }
 }

@@ -151,8 +151,8 @@ fn at_most(sheet: &Sheet, state: usize) -> Cell {
 mod tests {
     use super::count_refused;
     use crate::coverage::Coverage;
-    use crate::draft::{Draft, Node, AT_CEILING, NONE};
     use crate::rows::{sheet_f, sheet_g, sheet_h};
+    use crate::sketch::{Node, Sketch, AT_CEILING, NONE};
 
     /// What is counted of a sheet that is refused by this question.
     fn counted(bytes: &[u8], question: u32) -> String {
@@ -163,18 +163,18 @@ mod tests {
     }
 
     /// The sheet with a value, a mark and a chosen check for each stage.
-    fn at(mut draft: Draft, cells: &[(u32, u8, u8)]) -> Vec<u8> {
-        for (state, cell) in draft.states.iter_mut().zip(cells) {
+    fn at(mut sketch: Sketch, cells: &[(u32, u8, u8)]) -> Vec<u8> {
+        for (state, cell) in sketch.states.iter_mut().zip(cells) {
             (state.value, state.mark, state.chosen) = *cell;
         }
-        draft.bytes()
+        sketch.bytes()
     }
 
     #[test]
     fn sizes() {
         assert_eq!(counted(&sheet_f().bytes()[..16], 2), "refused 2: 16 bytes");
         assert_eq!(counted(&sheet_f().bytes()[..15], 2), "");
-        let ending = Draft::new(0, 0, vec![Node::Terminal(0)]).bytes();
+        let ending = Sketch::new(0, 0, vec![Node::Terminal(0)]).bytes();
         assert_eq!(counted(&ending[..19], 4), "refused 4: 17 to 19 bytes");
         assert_eq!(counted(&[&ending[..], &[0]].concat(), 4), "");
     }

@@ -3,7 +3,7 @@
 
 use crate::check::{actions, settled, sum};
 use crate::coverage::Coverage;
-use crate::draft::{FEW_STATES, MOST_STATES};
+use crate::sketch::{FEW_STATES, MOST_STATES};
 use sweep::{meant, written, Action, Cost, Node, Sheet, CEILING};
 
 /// The findings that a check lists several times side by side, and how often.
@@ -164,7 +164,7 @@ fn once_less(sheet: &Sheet, state: usize, action: &Action, worth: u64) -> bool {
 mod tests {
     use super::{apart, before_smaller, count_refused, groups, multiplied};
     use crate::coverage::Coverage;
-    use crate::draft::{Action, Draft, Node};
+    use crate::sketch::{Action, Node, Sketch};
 
     fn list(successors: &[usize]) -> sweep::Action {
         sweep::Action { cost: 1, successors: successors.to_vec() }
@@ -187,11 +187,11 @@ mod tests {
     /// Sheet D with other findings, of either kind, with a value and a mark for both stages.
     fn sheet_d(kind: u8, successors: &[u16], values: [u32; 2], mark: u8) -> Vec<u8> {
         let check = Action { cost: 100, successors: successors.to_vec() };
-        let mut draft = Draft::new(kind, 0, vec![Node::Decision(vec![check]), Node::Terminal(30)]);
-        for (state, value) in draft.states.iter_mut().zip(values) {
+        let mut sketch = Sketch::new(kind, 0, vec![Node::Decision(vec![check]), Node::Terminal(30)]);
+        for (state, value) in sketch.states.iter_mut().zip(values) {
             (state.value, state.mark) = (value, mark);
         }
-        draft.bytes()
+        sketch.bytes()
     }
 
     #[test]

@@ -2,8 +2,8 @@
 
 use crate::calls::TABLE_BYTES;
 use crate::coverage::Coverage;
-use crate::draft::{Action, Draft, Form, Node, AT_CEILING, CEILING, HEAD_BYTES, NONE};
-use crate::price;
+use crate::sketch::{Action, Form, Node, Sketch, AT_CEILING, CEILING, HEAD_BYTES, NONE};
+use crate::{draft_rows, price};
 
 const LARGEST: u64 = u64::MAX;
 const NO_PLAN: u64 = NONE as u64;
@@ -22,29 +22,29 @@ const fn refused(number: u32) -> Expected {
     Answer(number, 0, 0, 0)
 }
 
-fn check(cost: u32, successors: &[u16]) -> Action {
+pub fn check(cost: u32, successors: &[u16]) -> Action {
     Action { cost, successors: successors.to_vec() }
 }
 
-pub fn sheet_a() -> Draft {
+pub fn sheet_a() -> Sketch {
     let first = Node::Decision(vec![check(200, &[1, 3]), check(500, &[3])]);
     let second = Node::Decision(vec![check(400, &[2, 3])]);
-    Draft::new(0, 0, vec![first, second, Node::Terminal(100), Node::Terminal(0)])
+    Sketch::new(0, 0, vec![first, second, Node::Terminal(100), Node::Terminal(0)])
 }
 
-fn sheet_b(kind: u8) -> Draft {
+fn sheet_b(kind: u8) -> Sketch {
     let junction = Node::Decision(vec![check(100, &[1, 2])]);
-    Draft::new(kind, 0, vec![junction, Node::Terminal(30), Node::Terminal(50)])
+    Sketch::new(kind, 0, vec![junction, Node::Terminal(30), Node::Terminal(50)])
 }
 
-fn sheet_c(kind: u8, costs: [u32; 4]) -> Draft {
+fn sheet_c(kind: u8, costs: [u32; 4]) -> Sketch {
     let mut nodes = vec![Node::Decision(vec![check(10, &[1, 2, 3, 4])])];
     nodes.extend(costs.map(Node::Terminal));
-    Draft::new(kind, 0, nodes)
+    Sketch::new(kind, 0, nodes)
 }
 
-fn sheet_d(kind: u8, findings: &[u16]) -> Draft {
-    Draft::new(kind, 0, vec![Node::Decision(vec![check(100, findings)]), Node::Terminal(30)])
+fn sheet_d(kind: u8, findings: &[u16]) -> Sketch {
+    Sketch::new(kind, 0, vec![Node::Decision(vec![check(100, findings)]), Node::Terminal(30)])
 }
 
 /// D with values, all open.
@@ -52,20 +52,20 @@ fn sheet_d_at(junction: u32, ending: u32) -> Vec<u8> {
     but(sheet_d(1, &[1, 1]), |d| (d.states[0].value, d.states[1].value) = (junction, ending))
 }
 
-fn sheet_e(findings: &[u16]) -> Draft {
-    Draft::new(1, 0, vec![Node::Decision(vec![check(10, findings)]), Node::Terminal(5), Node::Terminal(7)])
+fn sheet_e(findings: &[u16]) -> Sketch {
+    Sketch::new(1, 0, vec![Node::Decision(vec![check(10, findings)]), Node::Terminal(5), Node::Terminal(7)])
 }
 
-fn one_ending(cost: u32) -> Draft {
-    Draft::new(0, 0, vec![Node::Terminal(cost)])
+fn one_ending(cost: u32) -> Sketch {
+    Sketch::new(0, 0, vec![Node::Terminal(cost)])
 }
 
 fn one_ending_at(value: u32) -> Vec<u8> {
     but(one_ending(70), |ending| ending.states[0].value = value)
 }
 
-pub fn sheet_f() -> Draft {
-    Draft::new(0, 0, vec![Node::Decision(Vec::new())])
+pub fn sheet_f() -> Sketch {
+    Sketch::new(0, 0, vec![Node::Decision(Vec::new())])
 }
 
 /// F with its value, mark and chosen check.
@@ -73,14 +73,14 @@ fn sheet_f_at(value: u32, mark: u8, chosen: u8) -> Vec<u8> {
     but(sheet_f(), |f| (f.states[0].value, f.states[0].mark, f.states[0].chosen) = (value, mark, chosen))
 }
 
-pub fn sheet_g(kind: u8) -> Draft {
+pub fn sheet_g(kind: u8) -> Sketch {
     let first = Node::Decision(vec![check(10, &[1]), check(100, &[2])]);
-    Draft::new(kind, 0, vec![first, Node::Decision(Vec::new()), Node::Terminal(30)])
+    Sketch::new(kind, 0, vec![first, Node::Decision(Vec::new()), Node::Terminal(30)])
 }
 
-pub fn sheet_h() -> Draft {
+pub fn sheet_h() -> Sketch {
     let first = Node::Decision(vec![check(10, &[1]), check(100, &[1])]);
-    Draft::new(0, 0, vec![first, Node::Decision(Vec::new())])
+    Sketch::new(0, 0, vec![first, Node::Decision(Vec::new())])
 }
 
 /// I with these checks at junction 0.
@@ -91,20 +91,20 @@ fn sheet_i(checks: Vec<Action>) -> Vec<u8> {
         nodes.push(Node::Decision(vec![check(1_000_000, &behind)]));
     }
     nodes.extend([Node::Terminal(1_000_000), Node::Decision(Vec::new())]);
-    let mut draft = Draft::new(1, 0, nodes);
-    (draft.states[0].value, draft.states[13].value) = (AT_CEILING, AT_CEILING);
+    let mut sketch = Sketch::new(1, 0, nodes);
+    (sketch.states[0].value, sketch.states[13].value) = (AT_CEILING, AT_CEILING);
     for stage in 1..=12 {
-        let state = &mut draft.states[stage];
+        let state = &mut sketch.states[stage];
         (state.value, state.mark) = (AT_CEILING.min(1_000_000 << (12 - stage)), 1);
     }
-    draft.bytes()
+    sketch.bytes()
 }
 
 /// J with this number written.
-pub fn sheet_j(number: u8) -> Draft {
-    let mut draft = sheet_a();
-    draft.states[0].form = Form::Counted(number);
-    draft
+pub fn sheet_j(number: u8) -> Sketch {
+    let mut sketch = sheet_a();
+    sketch.states[0].form = Form::Counted(number);
+    sketch
 }
 
 /// Sheet A in the forms of its two junctions.
@@ -113,8 +113,8 @@ fn sheet_a_in(first: Form, second: Form) -> Vec<u8> {
 }
 
 /// A or J without the field of one check of junction 0.
-fn lost(draft: Draft, place: usize) -> Vec<u8> {
-    but(draft, |sheet| {
+fn lost(sketch: Sketch, place: usize) -> Vec<u8> {
+    but(sketch, |sheet| {
         if let Node::Decision(actions) = &mut sheet.states[0].node {
             actions.remove(place);
         }
@@ -127,8 +127,8 @@ fn sheet_f_counted(number: u8) -> Vec<u8> {
 }
 
 /// The sheet with another tag at junction 0, whose length stays.
-fn tagged(draft: Draft, tag: u8) -> Vec<u8> {
-    let mut bytes = draft.bytes();
+fn tagged(sketch: Sketch, tag: u8) -> Vec<u8> {
+    let mut bytes = sketch.bytes();
     bytes[HEAD_BYTES] = tag;
     bytes
 }
@@ -140,42 +140,42 @@ fn cut(mut bytes: Vec<u8>) -> Vec<u8> {
 }
 
 /// 999 junctions of cost 1,000,000, all values least costs.
-fn long_chain(ending: u32) -> Draft {
+fn long_chain(ending: u32) -> Sketch {
     let mut nodes: Vec<Node> = (1..=999).map(|next| Node::Decision(vec![check(1_000_000, &[next])])).collect();
     nodes.push(Node::Terminal(ending));
-    let mut draft = Draft::new(0, 0, nodes);
-    for (place, state) in draft.states.iter_mut().enumerate() {
+    let mut sketch = Sketch::new(0, 0, nodes);
+    for (place, state) in sketch.states.iter_mut().enumerate() {
         state.value = (999 - place as u32) * 1_000_000 + ending;
     }
-    draft
+    sketch
 }
 
-fn with_checks(count: usize) -> Draft {
-    Draft::new(0, 0, vec![Node::Decision(vec![check(1, &[1]); count]), Node::Terminal(0)])
+fn with_checks(count: usize) -> Sketch {
+    Sketch::new(0, 0, vec![Node::Decision(vec![check(1, &[1]); count]), Node::Terminal(0)])
 }
 
 /// The same junction, counted, with a written number.
-pub fn counted_with_checks(count: usize, number: u8) -> Draft {
-    let mut draft = with_checks(count);
-    draft.states[0].form = Form::Counted(number);
-    draft
+pub fn counted_with_checks(count: usize, number: u8) -> Sketch {
+    let mut sketch = with_checks(count);
+    sketch.states[0].form = Form::Counted(number);
+    sketch
 }
 
-fn with_findings(count: u16) -> Draft {
+fn with_findings(count: u16) -> Sketch {
     let findings: Vec<u16> = (1..=count).collect();
     let mut nodes = vec![Node::Decision(vec![check(1, &findings)])];
     nodes.resize(usize::from(count) + 1, Node::Terminal(0));
-    Draft::new(0, 0, nodes)
+    Sketch::new(0, 0, nodes)
 }
 
-/// The draft with one thing changed.
-pub fn but(mut draft: Draft, change: impl Fn(&mut Draft)) -> Vec<u8> {
-    change(&mut draft);
-    draft.bytes()
+/// The sketch with one thing changed.
+pub fn but(mut sketch: Sketch, change: impl Fn(&mut Sketch)) -> Vec<u8> {
+    change(&mut sketch);
+    sketch.bytes()
 }
 
-fn set_first_check(draft: &mut Draft, action: Action) {
-    if let Node::Decision(actions) = &mut draft.states[0].node {
+fn set_first_check(sketch: &mut Sketch, action: Action) {
+    if let Node::Decision(actions) = &mut sketch.states[0].node {
         actions[0] = action;
     }
 }
@@ -240,6 +240,7 @@ pub fn run(price: Option<&str>) -> Result<Coverage, String> {
     for (name, bytes, budget, expected) in rows {
         call(name, &bytes, budget, expected)?;
     }
+    seen.add("worked examples of drafts", draft_rows::run()?);
     if let Some(program) = price {
         printed(program)?;
     }
@@ -355,9 +356,9 @@ fn printed(program: &str) -> Result<(), String> {
         ("H", sheet_h(), LINE_OF_H, ""),
         ("J", sheet_j(2), LINES_OF_A, ""),
     ];
-    for (name, draft, first, endings) in texts {
+    for (name, sketch, first, endings) in texts {
         println!("at row '{name}', printed");
-        price::expect(program, &draft.bytes(), &format!("{first}{endings}"))?;
+        price::expect(program, &sketch.bytes(), &format!("{first}{endings}"))?;
     }
     Ok(())
 }

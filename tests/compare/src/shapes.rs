@@ -1,9 +1,9 @@
 //! The problems: which states there are and how they hang together. They are good problems, but for a few sheets that have one byte or
 //! one state too many; damage comes later.
 
-use crate::draft::{size, Action, Draft, Node, CEILING, FEW_STATES, FORMER_MOST, HEAD_BYTES, MOST_STATES, TERMINAL_BYTES};
 use crate::emptied;
 use crate::rng::Rng;
+use crate::sketch::{size, Action, Node, Sketch, CEILING, FEW_STATES, FORMER_MOST, HEAD_BYTES, MOST_STATES, TERMINAL_BYTES};
 use std::collections::BTreeSet;
 
 /// The largest sheet.
@@ -47,7 +47,7 @@ enum Costs {
     Top,
 }
 
-type Draw = fn(&mut Rng) -> Draft;
+type Draw = fn(&mut Rng) -> Sketch;
 
 pub const SHAPES: [(&str, Draw); 15] = [
     ("tiny", tiny),
@@ -81,22 +81,22 @@ pub fn draw(rng: &mut Rng) -> usize {
     shape
 }
 
-fn tiny(rng: &mut Rng) -> Draft {
+fn tiny(rng: &mut Rng) -> Sketch {
     let costs = rng.pick(&[Costs::Ties, Costs::Ties, Costs::Small, Costs::Steps]);
     let states = rng.between(1, 6);
     random(rng, Spec { states, decisions: 5, actions: 3, successors: 3, reach: 6, costs })
 }
 
-fn small(rng: &mut Rng) -> Draft {
+fn small(rng: &mut Rng) -> Sketch {
     sized(rng, 4, 40, 2, 4)
 }
 
-fn medium(rng: &mut Rng) -> Draft {
+fn medium(rng: &mut Rng) -> Sketch {
     sized(rng, 40, 250, 3, 5)
 }
 
 /// `least` to `most` stages, with at most `width` checks and findings; `near` is the smallest reach.
-fn sized(rng: &mut Rng, least: usize, most: usize, near: usize, width: usize) -> Draft {
+fn sized(rng: &mut Rng, least: usize, most: usize, near: usize, width: usize) -> Sketch {
     let costs = rng.pick(&[Costs::Ties, Costs::Small, Costs::Steps, Costs::Wide, Costs::Top]);
     let states = rng.between(least, most);
     let reach = rng.between(near, most);
@@ -105,32 +105,32 @@ fn sized(rng: &mut Rng, least: usize, most: usize, near: usize, width: usize) ->
 }
 
 /// One junction with 16 checks, one check with 16 findings, others up to that.
-fn broad(rng: &mut Rng) -> Draft {
+fn broad(rng: &mut Rng) -> Sketch {
     let costs = rng.pick(&[Costs::Ties, Costs::Small, Costs::Wide]);
     let states = rng.between(18, 60);
-    let mut draft = random(rng, Spec { states, decisions: 3, actions: 16, successors: 16, reach: 60, costs });
+    let mut sketch = random(rng, Spec { states, decisions: 3, actions: 16, successors: 16, reach: 60, costs });
     let mut actions: Vec<Action> = (0..16).map(|_| action(rng, 0, states, 16, 60, costs)).collect();
     let widest = rng.below(16);
     actions[widest].successors = draw_successors(rng, 0, states, 16, 60);
-    draft.states[0].node = Node::Decision(actions);
-    draft
+    sketch.states[0].node = Node::Decision(actions);
+    sketch
 }
 
 /// Each junction leads to the next; some have another check that leads further on.
-fn chain(rng: &mut Rng) -> Draft {
+fn chain(rng: &mut Rng) -> Sketch {
     let junctions = if rng.one_in(8) { rng.pick(&[FEW_STATES - 1, FEW_STATES]) } else { rng.between(1, 450) };
     let costs = rng.pick(&[Costs::Ties, Costs::Small, Costs::Wide]);
     chain_of(rng, junctions, costs)
 }
 
-fn deep_chain(rng: &mut Rng) -> Draft {
+fn deep_chain(rng: &mut Rng) -> Sketch {
     let junctions = rng.pick(&[DEEPEST, DEEPEST, DEEPEST - 1, 3_000, 2_000, FORMER_MOST - 1, 1_000]);
     let costs = rng.pick(&[Costs::Ties, Costs::Small, Costs::Wide, Costs::Top]);
     chain_of(rng, junctions, costs)
 }
 
 /// Forks are drawn as long as there is room for them.
-fn chain_of(rng: &mut Rng, junctions: usize, costs: Costs) -> Draft {
+fn chain_of(rng: &mut Rng, junctions: usize, costs: Costs) -> Sketch {
     let mut nodes = Vec::new();
     let forks = rng.one_in(2);
     let mut room = FULL - HEAD_BYTES - TERMINAL_BYTES - LINK_BYTES * junctions;
@@ -145,21 +145,21 @@ fn chain_of(rng: &mut Rng, junctions: usize, costs: Costs) -> Draft {
         nodes.push(Node::Decision(actions));
     }
     nodes.push(Node::Terminal(cost(rng, costs)));
-    Draft::new(rng.below(2) as u8, 0, nodes)
+    Sketch::new(rng.below(2) as u8, 0, nodes)
 }
 
 /// About a thousand junctions of the largest cost: the least cost is a little below the ceiling, at it or above it.
-fn chain_at_ceiling(rng: &mut Rng) -> Draft {
+fn chain_at_ceiling(rng: &mut Rng) -> Sketch {
     let junctions = rng.between(997, 1002);
     let next = |number: usize| Action { cost: 1_000_000, successors: vec![number as u16 + 1] };
     let mut nodes: Vec<Node> = (0..junctions).map(|number| Node::Decision(vec![next(number)])).collect();
     nodes.push(Node::Terminal(rng.pick(&[0, 999_998, 999_999, 1_000_000])));
-    Draft::new(rng.below(2) as u8, 0, nodes)
+    Sketch::new(rng.below(2) as u8, 0, nodes)
 }
 
 /// A whole sheet whose costs double from state to state until they stand at the ceiling, and checks that add several of those up: 5 and 9
 /// of them wrap to below the ceiling in 32 bits.
-fn sums_at_ceiling(rng: &mut Rng) -> Draft {
+fn sums_at_ceiling(rng: &mut Rng) -> Sketch {
     let summed = rng.pick(&[1, 2, 4, 5, 5, 5, 9, 9, 9, 12, 16]);
     let behind = summed + rng.between(9, 11);
     let mut nodes = vec![Node::Decision(vec![Action { cost: 1, successors: (1..=summed as u16).collect() }])];
@@ -175,26 +175,26 @@ fn sums_at_ceiling(rng: &mut Rng) -> Draft {
             actions.push(other);
         }
     }
-    Draft::new(1, 0, nodes)
+    Sketch::new(1, 0, nodes)
 }
 
 /// A whole chain whose checks list the next stage several times: costs grow by that factor from stage to stage, soon to the ceiling.
-fn repeated_chain(rng: &mut Rng) -> Draft {
+fn repeated_chain(rng: &mut Rng) -> Sketch {
     let (junctions, times) = (rng.between(1, 40), rng.pick(&[2, 2, 2, 3, 5, 16]));
     let costs = rng.pick(&[Costs::Ties, Costs::Small, Costs::Wide, Costs::Top]);
-    let mut draft = chain_of(rng, junctions, costs);
-    draft.kind = 1;
-    for state in &mut draft.states {
+    let mut sketch = chain_of(rng, junctions, costs);
+    sketch.kind = 1;
+    for state in &mut sketch.states {
         let Node::Decision(actions) = &mut state.node else { continue };
         for action in actions.iter_mut().filter(|action| action.successors.len() == 1) {
             action.successors = vec![action.successors[0]; times];
         }
     }
-    draft
+    sketch
 }
 
 /// Such a chain whose least cost is the ceiling to the cent, or a few cents below or above it.
-fn repeats_at_ceiling(rng: &mut Rng) -> Draft {
+fn repeats_at_ceiling(rng: &mut Rng) -> Sketch {
     let mut left = CEILING - 3 + rng.pick(&[1, 2, 2, 2, 3, 3, 3, 4, 5]);
     let mut nodes = Vec::new();
     while left > 1_000_000 {
@@ -205,11 +205,11 @@ fn repeats_at_ceiling(rng: &mut Rng) -> Draft {
         left = (left - cost) / times;
     }
     nodes.push(Node::Terminal(left as u32));
-    Draft::new(1, 0, nodes)
+    Sketch::new(1, 0, nodes)
 }
 
 /// A worst sheet where a check is given up although its price does not move, and one of equal price passes after it.
-fn abandoned_check(rng: &mut Rng) -> Draft {
+fn abandoned_check(rng: &mut Rng) -> Sketch {
     let (low, step) = (rng.between(1, 20) as u32, rng.between(1, 20) as u32);
     let dear = rng.between(21, 60) as u32;
     let cost = rng.between(1, 100) as u32;
@@ -220,44 +220,44 @@ fn abandoned_check(rng: &mut Rng) -> Draft {
         Node::Terminal(dear),
         Node::Terminal(low),
     ];
-    let mut draft = Draft::new(0, 0, nodes);
-    draft.states[3].value = dear;
-    draft.states[0].value = cost + dear;
-    draft
+    let mut sketch = Sketch::new(0, 0, nodes);
+    sketch.states[3].value = dear;
+    sketch.states[0].value = cost + dear;
+    sketch
 }
 
 /// Many states and many bytes: often 4,096 states, often 60,000 bytes to the byte, and now and then one byte more.
-fn full_size(rng: &mut Rng) -> Draft {
+fn full_size(rng: &mut Rng) -> Sketch {
     let states = rng.pick(&[MOST_STATES, MOST_STATES, MOST_STATES - 1, 2_500, FORMER_MOST + 1, FORMER_MOST, 1_000, 700]);
     let bytes = rng.pick(&[FULL, FULL, FULL - 1, FULL + 1, 59_000]);
     let reach = rng.pick(&[20, 100, states]);
     let costs = rng.pick(&[Costs::Ties, Costs::Small, Costs::Steps, Costs::Wide]);
     let decisions = if states > 2_000 { rng.pick(&[1, 3, 6]) } else { 6 };
-    let mut draft = random(rng, Spec { states, decisions, actions: 3, successors: 4, reach, costs });
-    draft.start = 0;
-    start_at_decision(&mut draft);
-    pad(rng, &mut draft, bytes, reach, costs);
-    draft
+    let mut sketch = random(rng, Spec { states, decisions, actions: 3, successors: 4, reach, costs });
+    sketch.start = 0;
+    start_at_decision(&mut sketch);
+    pad(rng, &mut sketch, bytes, reach, costs);
+    sketch
 }
 
 /// More states than version 1 of the interface allowed, with few small checks; now and then one state too many.
-fn many_stages(rng: &mut Rng) -> Draft {
+fn many_stages(rng: &mut Rng) -> Sketch {
     let some = rng.between(FORMER_MOST + 1, MOST_STATES);
     let states = rng.pick(&[some, some, some, some, MOST_STATES - 1, MOST_STATES, MOST_STATES, MOST_STATES + 1]);
     let reach = rng.pick(&[3, 30, 300, states]);
     let costs = rng.pick(&[Costs::Ties, Costs::Small, Costs::Steps, Costs::Wide, Costs::Top]);
     let decisions = rng.between(1, 7);
-    let mut draft = random(rng, Spec { states, decisions, actions: 2, successors: 3, reach, costs });
-    start_at_decision(&mut draft);
-    draft
+    let mut sketch = random(rng, Spec { states, decisions, actions: 2, successors: 3, reach, costs });
+    start_at_decision(&mut sketch);
+    sketch
 }
 
 /// The start becomes the next decision behind it, if there is one, and its first check leads to the last state too.
-fn start_at_decision(draft: &mut Draft) {
-    let last = draft.states.len() - 1;
-    for state in usize::from(draft.start)..last {
-        if let Node::Decision(actions) = &mut draft.states[state].node {
-            draft.start = state as u16;
+fn start_at_decision(sketch: &mut Sketch) {
+    let last = sketch.states.len() - 1;
+    for state in usize::from(sketch.start)..last {
+        if let Node::Decision(actions) = &mut sketch.states[state].node {
+            sketch.start = state as u16;
             let successors = &mut actions[0].successors;
             successors.retain(|&t| t != last as u16);
             successors.push(last as u16);
@@ -267,24 +267,24 @@ fn start_at_decision(draft: &mut Draft) {
 }
 
 /// Checks of several findings, of which some share the largest value, wherever they stand.
-fn equal_values(rng: &mut Rng) -> Draft {
+fn equal_values(rng: &mut Rng) -> Sketch {
     let states = rng.between(6, 30);
-    let mut draft = random(rng, Spec { states, decisions: 2, actions: 2, successors: 8, reach: states, costs: Costs::Few });
+    let mut sketch = random(rng, Spec { states, decisions: 2, actions: 2, successors: 8, reach: states, costs: Costs::Few });
     let wide = |_| {
         let findings = rng.between(3, 8);
         Action { cost: cost(rng, Costs::Few).max(1), successors: draw_successors(rng, 0, states, findings, states) }
     };
-    draft.states[0].node = Node::Decision((0..2).map(wide).collect());
-    draft
+    sketch.states[0].node = Node::Decision((0..2).map(wide).collect());
+    sketch
 }
 
 /// Adds checks and findings until the sheet has this many bytes.
-fn pad(rng: &mut Rng, draft: &mut Draft, bytes: usize, reach: usize, costs: Costs) {
-    let states = draft.states.len();
-    let mut left = bytes - HEAD_BYTES - draft.states.iter().map(|s| size(&s.node)).sum::<usize>();
+fn pad(rng: &mut Rng, sketch: &mut Sketch, bytes: usize, reach: usize, costs: Costs) {
+    let states = sketch.states.len();
+    let mut left = bytes - HEAD_BYTES - sketch.states.iter().map(|s| size(&s.node)).sum::<usize>();
     while left > 0 {
         let number = rng.below(states - 20);
-        let Node::Decision(actions) = &mut draft.states[number].node else { continue };
+        let Node::Decision(actions) = &mut sketch.states[number].node else { continue };
         if left >= 9 && (left > 200 || left % 2 == 1) {
             let most = (left - 7) / 2;
             if actions.len() < 16 {
@@ -313,7 +313,7 @@ fn widen(action: &mut Action, number: usize, states: usize) -> usize {
 }
 
 /// Random states; the last one is always a terminal, and so are those that come when decisions have taken all the room.
-fn random(rng: &mut Rng, spec: Spec) -> Draft {
+fn random(rng: &mut Rng, spec: Spec) -> Sketch {
     let mut nodes = Vec::new();
     let mut room = UNPADDED - HEAD_BYTES - TERMINAL_BYTES * spec.states;
     let largest = 9 + spec.actions * (7 + 2 * spec.successors);
@@ -330,7 +330,7 @@ fn random(rng: &mut Rng, spec: Spec) -> Draft {
         nodes.push(node);
     }
     let start = if rng.one_in(4) { rng.below(spec.states) } else { 0 };
-    Draft::new(rng.below(2) as u8, start, nodes)
+    Sketch::new(rng.below(2) as u8, start, nodes)
 }
 
 fn action(rng: &mut Rng, number: usize, states: usize, successors: usize, reach: usize, costs: Costs) -> Action {

@@ -3,8 +3,8 @@
 //! It prints `at ..` before each row or case and `count N NAME` at the end; anything else that it prints is a failure.
 
 use crate::coverage::Coverage;
-use crate::draft::MOST_STATES;
-use crate::{case, check, price, rows};
+use crate::sketch::MOST_STATES;
+use crate::{case, check, drafts, price, rows};
 use std::process::ExitCode;
 use std::thread;
 
@@ -57,6 +57,7 @@ fn one(seed: u64, price: Option<&str>, seen: &mut Coverage) -> Result<(), String
     seen.saw_if(!case.damaged && case.bytes.len() == 60_001, "nothing wrong but 60,001 bytes");
     seen.saw_if(!case.damaged && case.states == MOST_STATES + 1, "nothing wrong but 4,097 stages");
     seen.saw_if(case.damaged && sweep::read(&case.bytes).is_ok(), "accepted although damaged");
+    drafts::run(seed, &case, seen).map_err(tell)?;
     if let (Some(program), Some(worked)) = (price, &case.worked) {
         price::compare(program, &case.bytes, worked, seen).map_err(tell)?;
     }
@@ -64,7 +65,7 @@ fn one(seed: u64, price: Option<&str>, seen: &mut Coverage) -> Result<(), String
 }
 
 /// The bytes of a short sheet.
-fn hex(bytes: &[u8]) -> String {
+pub fn hex(bytes: &[u8]) -> String {
     if bytes.len() > 300 {
         return String::new();
     }

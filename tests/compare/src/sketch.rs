@@ -1,4 +1,4 @@
-//! A sheet in the making, and how it is written. Nothing is checked: a draft may be as wrong as a damaged sheet needs.
+//! A sheet in the making, and how it is written. Nothing is checked: a sketch may be as wrong as a damaged sheet needs.
 
 #[derive(Clone)]
 pub struct Action {
@@ -31,7 +31,7 @@ pub struct State {
 
 /// The head's three numbers stand apart from the states, so that they can disagree with them.
 #[derive(Clone)]
-pub struct Draft {
+pub struct Sketch {
     pub kind: u8,
     pub count: u16,
     pub start: u16,
@@ -58,11 +58,11 @@ pub const FEW_STATES: usize = 256;
 pub const HEAD_BYTES: usize = 8;
 pub const TERMINAL_BYTES: usize = 12;
 
-impl Draft {
+impl Sketch {
     /// All states open, with value 0, and all junctions plain.
-    pub fn new(kind: u8, start: usize, nodes: Vec<Node>) -> Draft {
+    pub fn new(kind: u8, start: usize, nodes: Vec<Node>) -> Sketch {
         let blank = |node| State { node, form: Form::Plain, value: 0, mark: 0, chosen: 0 };
-        Draft { kind, count: nodes.len() as u16, start: start as u16, states: nodes.into_iter().map(blank).collect() }
+        Sketch { kind, count: nodes.len() as u16, start: start as u16, states: nodes.into_iter().map(blank).collect() }
     }
 
     /// The bytes of the sheet.
@@ -78,7 +78,7 @@ impl Draft {
         bytes
     }
 
-    /// The price of a check by the values drafted so far.
+    /// The price of a check by the values sketched so far.
     pub fn price(&self, action: &Action) -> u64 {
         let values: Vec<u32> = action.successors.iter().map(|&t| self.states[usize::from(t)].value).collect();
         if values.contains(&NONE) {
