@@ -7,7 +7,8 @@
  * Platform   x86-64 Linux, called by the System V ABI, as every C compiler there calls. The archive has code for nothing else.
  * Linking    install.sh PREFIX puts libldfs.a, this header and ldfs.pc under PREFIX; then -lldfs, and no other library but the C library,
  *            of which memset and memcpy are called.
- * Stack      a call needs up to LDFS_STACK_BYTES of stack, on the deepest sheets, beside what its thread needs otherwise.
+ * Stack      a call needs up to LDFS_STACK_BYTES of stack, on the deepest sheets, beside what its thread needs otherwise. A call on a draft
+ *            needs about a tenth of that, whatever the draft (docs/HOST.md).
  * Memory     the library allocates nothing and keeps nothing between calls: no memory, no files, no global state. All that it
  *            reads or writes is its own stack and the slices that it is lent.
  * Threads    calls on slices that do not overlap may run at once.
