@@ -1,4 +1,6 @@
 // The functions that a terminal's host program calls: `ldfs_solve` here, those on drafts in drafts.rt.
+#![tactic(auto)]
+
 pub mod drafts; // drafts.rt: a draft rearranged, and restored
 
 ghost use Rattle.std.specs.Prelude.{◌≡◌, ◌++◌, true, ◌+◌, ◌*◌, ◌<◌, ◌≤◌, length, drop};

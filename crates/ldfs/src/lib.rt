@@ -1,4 +1,6 @@
 // A call on any bytes: the questions, the search on an accepted sheet, and the answer. The public `solve`.
+#![tactic(auto)]
+
 ghost use Rattle.std.specs.Prelude.{◌≡◌, length};
 ghost use Rattle.model.specs.Problem.{Cell, solved};
 ghost use Rattle.model.specs.Read.{problem_of};

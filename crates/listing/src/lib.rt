@@ -1,4 +1,6 @@
 // The text that `price` prints (S10), into a lent buffer.
+#![tactic(auto)]
+
 mod width; // width.rt: how many digits a number has
 mod text; // text.rt: words and numbers
 mod lines; // lines.rt: the lines of a listing

@@ -1,4 +1,6 @@
 // The limits and types that the code and the definitions of specs/ share. There are no functions here.
+#![tactic(auto)]
+
 pub mod format; // format.rt: tags, lengths, offsets and sizes of fields
 
 // Limits: those of `specs/Limits.antt`.

@@ -2,6 +2,8 @@
 // line is a number as the library `io` prints it, its width (S10.10), and a buffer of twenty dots with the number written into it, as a
 // listing has it (S10.4). The last line is of a buffer that is one byte too short. The powers are found by multiplying, so nothing here
 // rests on the table of widths.
+#![tactic(auto)]
+
 use libc::STDOUT_FILENO;
 use listing::write_number;
 

@@ -1,4 +1,6 @@
 // The program `price` (S10): prices a sheet from a file or from standard input.
+#![tactic(auto)]
+
 mod input; // input.rt: reading a sheet
 mod output; // output.rt: the listing, and what is said on standard error
 mod words; // words.rt: how the program is used, its version, and why a sheet is refused

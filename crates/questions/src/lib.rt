@@ -1,4 +1,6 @@
 // The questions of S4 put to a sheet's bytes, and the index table.
+#![tactic(auto)]
+
 mod fields; // fields.rt: questions 4 and 10
 pub mod states; // states.rt: questions 5 to 8
 

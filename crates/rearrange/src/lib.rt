@@ -1,4 +1,6 @@
 // A draft, whose findings may lie anywhere, made an ordinary sheet, and back.
+#![tactic(auto)]
+
 mod moving; // moving.rt: states renumbered
 mod placing; // placing.rt: the order of placing, the places of a list
 

@@ -28,6 +28,8 @@
 // - `-table` lines: the table's entries were 7, 8, 9 and so on. Refusal 1 leaves them (S5.4), 2 to 10 make all of them 0 (S5.5), past the
 //   4,096th too; accepted or worked (S11.20), the entries are A's offsets 8, 37, 57, 69, or J's 8, 38, 58, 70, and every entry past the
 //   last stage is 0 (S3.5): 4,096 - 4 and 4,200 - 4 of them.
+#![tactic(auto)]
+
 mod words; // words.rt: words and numbers on standard output
 mod bytes; // bytes.rt: bytes in a buffer
 mod chain; // chain.rt: the junctions of the chain of S11.13
