@@ -1,0 +1,5 @@
+
+use Rattle.sheet.proofs.fields.solved_at.Goals as goal
+
+pub returns : goal.returns
+returns c = cc

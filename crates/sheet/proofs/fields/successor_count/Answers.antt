@@ -1,0 +1,19 @@
+use native.Mathlib.Omega.{arith}
+use Rattle.layout.proofs.Actions.{content-of, count_of}
+use Rattle.sheet.proofs.fields.successor_count.Goals as goal
+
+pub overflow_add-at : goal.overflow_add-at
+overflow_add-at c =
+    omega (arith, content-of c.args.sheet.now c.args.at c.requires)
+
+pub get16-requires : goal.get16-requires
+get16-requires c =
+    omega (arith, content-of c.args.sheet.now c.args.at c.requires)
+
+pub overflow_sub-result : goal.overflow_sub-result
+overflow_sub-result c =
+    omega (arith, content-of c.args.sheet.now c.args.at c.requires)
+
+pub returns : goal.returns
+returns c =
+    omega (arith, content-of c.args.sheet.now c.args.at c.requires, count_of c.args.sheet.now c.args.at c.requires)

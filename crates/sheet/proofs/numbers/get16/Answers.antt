@@ -1,0 +1,7 @@
+use Rattle.model.specs.Format.{be16}
+use borrow.Author.Rules.{rules}
+use Rattle.sheet.proofs.numbers.get16.Goals as goal
+
+pub returns : goal.returns
+unfolding be16
+returns c = search rules

@@ -1,0 +1,7 @@
+use Rattle.model.specs.Format.{be32}
+use borrow.Author.Rules.{rules}
+use Rattle.sheet.proofs.numbers.get32.Goals as goal
+
+pub returns : goal.returns
+unfolding be32
+returns c = search rules
