@@ -26,7 +26,7 @@ const MAX_STATE_LINE: usize = 105;
 pub const ENOUGH: usize = MAX_LINE_ONE + MAX_STATE_LINE * MAX_STATES;
 
 // What became of a listing: the number of its bytes and the call's outcome (S7.1), or that the buffer is too short for one.
-#[derive(Drop)]
+#[derive(Clone, Copy)]
 pub enum Listed {
     TooShort,
     Written(usize, Outcome),

@@ -52,7 +52,7 @@ pub const MARKS: u32 = 8;
 pub const BUDGET: u32 = 9;
 
 // How a call ended. `specs/Report.antt` gives the number of each case (S7.1).
-#[derive(Drop)]
+#[derive(Clone, Copy)]
 pub enum Outcome {
     Refused(u32),
     Settled,
@@ -63,7 +63,7 @@ pub enum Outcome {
 
 // What a call reports: its outcome; the start's value, the passes begun and the raises made, 0 for all three when refused; and the
 // budget, the number of raises that it was given (S7.2, S7.5).
-#[derive(Drop)]
+#[derive(Clone, Copy)]
 pub struct Answer {
     pub outcome: Outcome,
     pub price: u64,

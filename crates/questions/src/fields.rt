@@ -101,7 +101,7 @@ fn action_length(s: &[u8], at: usize) -> usize
 
 // What reading the fields gives: whether they are in place, question 4; and whether each number of actions that was written, as far as they
 // were read, is right, question 10.
-#[derive(Drop)]
+#[derive(Clone, Copy)]
 pub(crate) struct Fields {
     pub(crate) in_place: bool,
     pub(crate) counts: bool,

@@ -28,7 +28,7 @@ use sheet::numbers::get16;
 use states::{Question, all_pass};
 
 // A sheet's answer to every question but that on the budget: accepted, or refused by the number of the first whose answer is no.
-#[derive(Drop)]
+#[derive(Clone, Copy)]
 pub enum Verdict {
     Accepted,
     Refused(u32),

@@ -18,7 +18,7 @@ use sheet::fields::{
 use sheet::pricing::price;
 
 // Which question is put to a state.
-#[derive(Drop)]
+#[derive(Clone, Copy)]
 pub(crate) enum Question {
     // 5: costs, values, marks and chosen actions in range
     Ranges,

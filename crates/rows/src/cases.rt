@@ -10,7 +10,7 @@ const LARGEST: u64 = 18446744073709551615;
 
 // What the next case is run with: its budget, the most bytes of the sheet, the table's entries (0 where its line does not speak of the
 // table), and which entries are printed.
-#[derive(Drop)]
+#[derive(Clone, Copy)]
 pub(crate) struct Options {
     pub(crate) budget: u64,
     pub(crate) bytes: usize,

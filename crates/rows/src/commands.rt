@@ -7,7 +7,7 @@ use super::text::{Line, ROOM};
 use super::words::slip;
 
 // What lines before have left: the number of bytes of the base and of the last case's sheet, and the options of the next case.
-#[derive(Drop)]
+#[derive(Clone, Copy)]
 pub(crate) struct State {
     base: usize,
     sheet: usize,

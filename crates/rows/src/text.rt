@@ -20,7 +20,7 @@ const NONE: u8 = 16;
 
 // A line as far as it is read: its command, what the next byte belongs to, the number before the last space and the one after it, a
 // hexadecimal digit that waits for its second, and the number of its bytes.
-#[derive(Drop)]
+#[derive(Clone, Copy)]
 pub(crate) struct Line {
     pub(crate) command: u8,
     part: u8,

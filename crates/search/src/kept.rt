@@ -14,7 +14,7 @@ use sheet::pricing::price;
 
 // What is kept of the prices of the actions gone through: the least of those priced since the last raise, and the least of the others when
 // they were priced. Values never fall, so no price has fallen below `old` since.
-#[derive(Drop)]
+#[derive(Clone, Copy)]
 pub(crate) struct Kept {
     pub(crate) fresh: u32,
     pub(crate) old: u32,

@@ -8,7 +8,7 @@ ghost use Rattle.search.specs.Did.{Workable, DidPasses};
 use super::visits::{Way, visit};
 
 // What the work of a call gives: how the last pass ended, the passes begun, and the raises made.
-#[derive(Drop)]
+#[derive(Clone, Copy)]
 pub struct Passes {
     pub way: Way,
     pub begun: u64,

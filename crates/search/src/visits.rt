@@ -22,7 +22,7 @@ use sheet::numbers::{get16, set32};
 use sheet::pricing::price;
 
 // How a visit ends: it succeeds, it fails, or work stops for want of budget (S6.9).
-#[derive(Drop)]
+#[derive(Clone, Copy)]
 pub enum Way {
     Success,
     Failure,
@@ -30,14 +30,14 @@ pub enum Way {
 }
 
 // What a visit gives: how it ended, and the raises made by then.
-#[derive(Drop)]
+#[derive(Clone, Copy)]
 pub(crate) struct Visited {
     pub(crate) way: Way,
     pub(crate) raises: u64,
 }
 
 // What an update gives: whether the budget had room for it, and the raises made by then.
-#[derive(Drop)]
+#[derive(Clone, Copy)]
 struct Updated {
     done: bool,
     raises: u64,
@@ -45,7 +45,7 @@ struct Updated {
 
 // An open decision that is visited: its number, where its value stands, and its value, which stays while later states are visited. The
 // place and the value are read once a visit.
-#[derive(Drop)]
+#[derive(Clone, Copy)]
 struct OpenDecision {
     state: usize,
     cell: usize,

@@ -11,7 +11,7 @@ use super::fields::{action_cost, next_action, successor, value_at};
 use model::{CEILING, LONG_CEILING, NO_PLAN, format};
 
 // What pricing an action gives: its price, and the lowest-numbered of its successors whose value is largest.
-#[derive(Drop)]
+#[derive(Clone, Copy)]
 pub struct Pricing {
     pub price: u32,
     pub dearest: usize,
