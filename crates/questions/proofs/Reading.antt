@@ -154,9 +154,9 @@ unfitting true n l is none = absurd (omega arith)
 unfitting false n l is none = refl
 
 module _ (bs : List ℕ) (l : ℕ) where
-  field_fits : l ≡ field_length bs → 0 < l → (action_fits bs ≡ true) × (l ≡ 3 + be16 bs 1)
+  fits-field : l ≡ field_length bs → 0 < l → (action_fits bs ≡ true) × (l ≡ 3 + be16 bs 1)
   unfolding field_length
-  field_fits = fitting (action_fits bs) (be16 bs 1) l
+  fits-field = fitting (action_fits bs) (be16 bs 1) l
 
   field-unfit : l ≡ field_length bs → l ≡ 0 → action_fits bs ≡ false
   unfolding field_length
@@ -427,7 +427,7 @@ module _ {s t₀ t : List ℕ} {states at i v : ℕ} {right : Bool} (g : Turn s 
 pub action-read : {s : List ℕ} {at₀ o n l : ℕ} → ReadingActions s at₀ o n → n < max_actions → get_or s o 0 ≡ 4 →
     l ≡ field_length (drop o s) → 0 < l → ReadingActions s at₀ (o + l) (n + 1)
 action-read {s} {o = o} {n} {l} k lt four e some =
-    let (fits, is) = field_fits (drop o s) l e some in
+    let (fits, is) = fits-field (drop o s) l e some in
     record {
       upto = omega arith;
       inside = action-room s o l k.inside is fits;

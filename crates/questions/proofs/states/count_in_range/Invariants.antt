@@ -1,0 +1,18 @@
+use Prim.Native.Nat.{◌-◌, ◌<◌}
+use mathlib.Core.Path.{◌≡◌, refl, ◌∙◌}
+use mathlib.Core.Bool.{true}
+use native.Mathlib.Omega.{arith}
+use lib.ListN.{length}
+use Rattle.model.specs.Tests.{every}
+use Rattle.model.specs.Problem.{action_at}
+use Rattle.model.specs.Read.{problem_of}
+use Rattle.sheet.proofs.Laws.{actions_at}
+use Rattle.questions.proofs.Stepping.{Along, few, along-begins, along-stands, along-ends, along-fits, along-is, along-next}
+use Rattle.questions.proofs.Stepping.{cost_of_fits, every_more, counted-all, counted_none, cost-low, cost-high, cost-fits}
+use Rattle.questions.proofs.states.count_in_range.Given as goal
+
+abbrev pub invariant-loop-cost : goal.invariant-loop-cost
+invariant-loop-cost l = Along l.sheet l.state l.n l.at × (every l.n (cost_of_fits (problem_of l.sheet) l.state) ≡ true)
+
+abbrev pub decreases-loop-cost : goal.decreases-loop-cost
+decreases-loop-cost l = length (actions_at (problem_of l.sheet) l.state) - l.n

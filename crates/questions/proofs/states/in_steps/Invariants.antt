@@ -1,0 +1,20 @@
+use Prim.Native.Nat.{ℕ, ◌-◌, ◌<◌}
+use mathlib.Core.Path.{◌≡◌, refl, sym, ◌∙◌}
+use mathlib.Core.Bool.{Bool, true, false}
+use native.Mathlib.Omega.{arith}
+use lib.ListN.{length}
+use Rattle.model.specs.Tests.{every}
+use Rattle.model.specs.Read.{problem_of}
+use Rattle.sheet.specs.Sheet.{Decision}
+use Rattle.sheet.proofs.Laws.{actions_at}
+use Rattle.questions.proofs.Stepping.{Along, along-begins, along-stands, along-ends, along-fits, along-is, along-next}
+use Rattle.questions.proofs.Stepping.{every_more, all-stepped, stepped-out, terminal-from, decision-from}
+use Rattle.questions.proofs.Stepping.{order_of, order-of, order-terminal}
+use Rattle.questions.proofs.states.in_steps.Given as goal
+
+abbrev pub invariant-loop-at : goal.invariant-loop-at
+invariant-loop-at l =
+    (k : ℕ) × Along l.sheet l.state k l.at × (every k (order_of (problem_of l.sheet) l.step l.low l.n l.state) ≡ true)
+
+abbrev pub decreases-loop-at : goal.decreases-loop-at
+decreases-loop-at l = length l.sheet - l.at
