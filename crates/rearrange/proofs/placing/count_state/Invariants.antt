@@ -1,0 +1,17 @@
+use Prim.Native.Nat.{◌-◌, ◌<◌}
+use native.Mathlib.Omega.{arith}
+use lib.ListN.{length}
+use Rattle.model.specs.Read.{problem_of}
+use Rattle.sheet.specs.Sheet.{Decision}
+use Rattle.sheet.proofs.Laws.{actions_at}
+use Rattle.questions.proofs.Stepping.{Along, few, along-begins, along-stands, along-ends, along-fits, along-is, along-next, terminal-from}
+use Rattle.questions.proofs.Stepping.{decision-from}
+use Rattle.rearrange.proofs.Tally.{Tally, tally-start, tally-length, tally-end, tally-room, tally-next, checks-shaped}
+use Rattle.rearrange.proofs.Tally.{checks-below, nothing-counted}
+use Rattle.rearrange.proofs.placing.count_state.Given as goal
+
+abbrev pub invariant-loop-waits : goal.invariant-loop-waits
+invariant-loop-waits l = Along l.sheet l.state l.k l.at × Tally l.initial.waits (actions_at (problem_of l.sheet) l.state) l.waits l.k
+
+abbrev pub decreases-loop-waits : goal.decreases-loop-waits
+decreases-loop-waits l = length (actions_at (problem_of l.sheet) l.state) - l.k

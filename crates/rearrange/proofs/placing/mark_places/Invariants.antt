@@ -1,0 +1,12 @@
+use Prim.Native.Nat.{◌-◌}
+use mathlib.Core.Path.{◌≡◌}
+use native.Mathlib.Omega.{arith}
+use Rattle.rearrange.specs.Turning.{Marked}
+use Rattle.rearrange.proofs.Places.{marked_start, marked-hit, marked-miss}
+use Rattle.rearrange.proofs.placing.mark_places.Given as goal
+
+abbrev pub invariant-loop-i : goal.invariant-loop-i
+invariant-loop-i l = Marked l.list l.n l.i l.initial.new l.new
+
+abbrev pub decreases-loop-i : goal.decreases-loop-i
+decreases-loop-i l = l.n - l.i

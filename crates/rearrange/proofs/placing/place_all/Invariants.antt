@@ -1,0 +1,11 @@
+use Prim.Native.Nat.{◌-◌, ◌<◌}
+use native.Mathlib.Omega.{arith}
+use Rattle.model.specs.Read.{problem_of}
+use Rattle.rearrange.proofs.Run.{Run, run-start, run-full, run-stuck, release-asks, run-again, stage-within, below-n}
+use Rattle.rearrange.proofs.placing.place_all.Given as goal
+
+abbrev pub invariant-loop-k : goal.invariant-loop-k
+invariant-loop-k l = Run (problem_of l.sheet) l.n l.initial.waits l.initial.old l.waits l.old l.low l.k
+
+abbrev pub decreases-loop-k : goal.decreases-loop-k
+decreases-loop-k l = l.n - l.k

@@ -1,0 +1,12 @@
+use Prim.Native.Nat.{◌-◌, ◌<◌}
+use native.Mathlib.Omega.{arith}
+use lib.ListN.{length, get_or, drop}
+use Rattle.model.specs.Read.{action_read}
+use Rattle.rearrange.proofs.Releasing.{Lowering, lowering-start, here, lowering-next, lowering-length, lowering-end}
+use Rattle.rearrange.proofs.placing.release_successors.Given as goal
+
+abbrev pub invariant-loop-j : goal.invariant-loop-j
+invariant-loop-j l = Lowering l.initial.waits (action_read (drop l.at l.sheet)).successors l.low l.m l.waits l.least l.j
+
+abbrev pub decreases-loop-j : goal.decreases-loop-j
+decreases-loop-j l = l.m - l.j
