@@ -9,8 +9,8 @@ use borrow.Author.Tests.{le-leb, lt-leb, leb-true}
 use lib.ListN.{length, get_or, take, drop, replicate, length-replicate}
 use Rattle.model.specs.Tests.{all, every}
 use Rattle.model.specs.Problem.{Node, terminal, Problem, Cell, states}
-use Rattle.model.specs.Format.{Bytes, head_tag, be16, offsets_from}
-use Rattle.model.specs.Read.{nodes_good, nodes_read, problem_of, cells_of}
+use Rattle.model.specs.Format.{Bytes, be16, offsets_from}
+use Rattle.model.specs.Read.{nodes_good, nodes_read, problem_of}
 use Rattle.model.specs.Limits.{max_states, min_bytes, max_bytes}
 use Rattle.model.specs.Questions.{question1, question2, question3, question4, count_right, question10}
 use Rattle.model.specs.Questions.{question5, question6, question6_draft, question7, question8, Question, question, finding_questions}

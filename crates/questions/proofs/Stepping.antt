@@ -9,7 +9,7 @@ use borrow.Author.Tests.{le-leb, lt-leb, leb-true, ltb-true, ltb-false, eqb-true
 use lib.Dec.{leb, ltb, eqb}
 use lib.ListN.{length, get_or, drop, drop_of_length-le}
 use lib.Seq.{drop-cons}
-use Rattle.model.proofs.TestLaws.{true-also, every_true, every-false}
+use Rattle.model.proofs.TestLaws.{true-also, every-false}
 use Rattle.model.specs.Tests.{also, all, every}
 use Rattle.model.specs.Problem.{Kind, worst, whole, Action, Form, decision, Problem, Cell, states, node_at, action_at}
 use Rattle.model.specs.Problem.{cell_of, value_of, solved}

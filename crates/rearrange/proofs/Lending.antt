@@ -3,11 +3,11 @@ use Prim.Native.Nat.{ℕ, zero, suc, ◌<◌, ◌≤◌}
 use mathlib.Core.Path.{◌≡◌, refl, sym, ◌∙◌}
 use mathlib.Core.Bool.{true, false}
 use mathlib.Core.Logic.{◌⊎◌, inl, inr}
-use mathlib.Core.List.{List, [], ◌∷◌}
+use mathlib.Core.List.{List}
 use native.Mathlib.Omega.{arith}
 use borrow.Author.Tests.{le-leb, lt-leb, leb-true}
 use lib.ListN.{length}
-use Rattle.model.specs.Tests.{fork, all}
+use Rattle.model.specs.Tests.{all}
 use Rattle.model.specs.Limits.{max_states}
 use Rattle.model.specs.Read.{problem_of}
 use Rattle.model.specs.Questions.{first_no}
@@ -19,7 +19,6 @@ use Rattle.order.specs.Asking.{rearranged_bytes, restored_bytes, output_given, l
 use Rattle.order.specs.Asking.{restored_output, restored_table}
 use Rattle.questions.specs.Table.{indexed_before}
 use Rattle.questions.specs.Verdicts.{verdict}
-use Rattle.questions.specs.declared.Verdict.{Verdict}
 use Rattle.questions.specs.declared.Verdict.TheVariants.{Accepted, Refused}
 use Rattle.questions.proofs.Asking.{cleared, cleared-zeros, from-cleared}
 

@@ -1,16 +1,16 @@
 -- The places of the numbers of a list.
-use Prim.Native.Nat.{ℕ, suc, ◌+◌, ◌-◌, ◌<◌, ◌≤◌}
+use Prim.Native.Nat.{ℕ, ◌+◌, ◌-◌, ◌<◌, ◌≤◌}
 use mathlib.Core.Path.{◌≡◌, refl, sym, ap, ◌∙◌}
 use mathlib.Core.Bool.{Bool, true, false}
 use mathlib.Core.Logic.{◌⊎◌, inl, inr, ◌≢◌}
-use mathlib.Core.List.{List, [], ◌∷◌, ◌++◌}
+use mathlib.Core.List.{List, [], ◌∷◌}
 use native.Mathlib.Omega.{arith}
 use native.Mathlib.Numerals.{add-one}
 use lib.ListN.{length, set, take, length-set}
 use lib.Seq.{take-suc, get_or-take, get_or-set_same, get_or-set_other, length-take-le, ext_get_or}
 use Rattle.model.proofs.TestLaws.{never, every_true, true-every}
-use Rattle.theory.proofs.Basics.{clash, same_or_not}
-use Rattle.order.specs.Order.{among, inverse, lists}
+use Rattle.theory.proofs.Basics.{same_or_not}
+use Rattle.order.specs.Order.{inverse, lists}
 use Rattle.order.specs.Moved.{at}
 use Rattle.order.specs.Claims.{Perm}
 use Rattle.order.specs.Times.{times}

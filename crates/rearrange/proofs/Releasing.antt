@@ -5,18 +5,18 @@ use mathlib.Core.Logic.{◌⊎◌, inl, inr, ◌≢◌}
 use mathlib.Core.List.{List, [], ◌∷◌, ◌++◌, append-nil, append_assoc}
 use native.Mathlib.Omega.{arith}
 use native.Mathlib.Numerals.{add-one}
-use lib.ListN.{length, get_or, set, take, drop, length-set, get_or-eq_default, take-append-drop}
+use lib.ListN.{length, get_or, set, take, drop, get_or-eq_default, take-append-drop}
 use lib.Seq.{take-suc, get_or-set_same, get_or-set_other, take_all}
-use Rattle.model.specs.Format.{terminal_tag, tag_of, actions_of}
-use Rattle.model.specs.Problem.{Action, action, Node, terminal, Problem, states, node_at, action_at}
+use Rattle.model.specs.Format.{actions_of}
+use Rattle.model.specs.Problem.{Action, node_at, action_at}
 use Rattle.model.specs.Read.{problem_of}
 use Rattle.theory.proofs.Basics.{lt-or-le, same_or_not}
 use Rattle.order.proofs.Counting.{times-append, times-own}
-use Rattle.rearrange.proofs.Waits.{counted-length, lessened-length, counted-at, lessened-at, counted-append, lessened-append}
+use Rattle.rearrange.proofs.Waits.{lessened-length, lessened-at, lessened-append}
 use Rattle.order.specs.Times.{times}
-use Rattle.rearrange.specs.Waits.{found, found_at, counted, lessened}
+use Rattle.rearrange.specs.Waits.{found, found_at, lessened}
 use Rattle.sheet.proofs.Laws.{is-terminal}
-use Rattle.sheet.specs.Sheet.{Terminal, terminal_cost}
+use Rattle.sheet.specs.Sheet.{Terminal}
 
 pub one_further : (ws : List ℕ) (t : ℕ) → ((u : ℕ) → u < t → 0 < get_or ws u 0) → 0 < get_or ws t 0 → (u : ℕ) → u < t + 1 → 0 < get_or ws u 0
 one_further ws t h g u l = go (same_or_not u t)

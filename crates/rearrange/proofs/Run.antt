@@ -1,25 +1,22 @@
 -- The loop that places: k stages placed so far.
-use Prim.Native.Nat.{ℕ, zero, suc, ◌+◌, ◌-◌, ◌<◌, ◌≤◌}
+use Prim.Native.Nat.{ℕ, suc, ◌+◌, ◌-◌, ◌<◌, ◌≤◌}
 use mathlib.Core.Path.{◌≡◌, refl, sym, ap, ◌∙◌}
-use mathlib.Core.Bool.{Bool, true, false}
+use mathlib.Core.Bool.{true, false}
 use mathlib.Core.Logic.{◌⊎◌, inl, inr, ◌≢◌}
 use mathlib.Core.List.{List, [], ◌∷◌, ◌++◌}
 use native.Mathlib.Omega.{arith}
 use native.Mathlib.Numerals.{add-one}
-use lib.Dec.{eqb, ltb}
 use borrow.Author.Tests.{eq-eqb, ne_eqb, lt-ltb, le-ltb}
 use lib.ListN.{length, get_or, set, take, length-set}
 use lib.Seq.{length-take-le, take-suc-set, get_or-set_same, get_or-set_other}
-use Rattle.model.proofs.TestLaws.{never}
-use Rattle.model.specs.Problem.{Action, Node, terminal, decision, Problem, states, node_at, action_at, ◌∈◌}
-use Rattle.model.specs.Read.{problem_of, cells_of}
-use Rattle.model.specs.Tests.{fork}
+use Rattle.model.specs.Problem.{Problem, states, node_at}
+use Rattle.model.specs.Read.{problem_of}
 use Rattle.layout.specs.Shape.{Inside}
 use Rattle.theory.proofs.Basics.{lt-or-le, same_or_not}
 use Rattle.order.proofs.Placing.{lowest-is, lowest-none, Placed, nothing_placed, more-placed}
 use Rattle.order.proofs.Pointing.{pointed-below}
 use Rattle.rearrange.proofs.Waits.{times-points, free-waiting, waiting-own, waiting-other, lessened-at, lessened-length}
-use Rattle.order.specs.Order.{points_to, free, lowest, next, placing, order}
+use Rattle.order.specs.Order.{free, next, placing, order}
 use Rattle.order.specs.Times.{times}
 use Rattle.rearrange.specs.Waits.{found_at, waiting, lessened}
 use Rattle.sheet.specs.Sheet.{Within}

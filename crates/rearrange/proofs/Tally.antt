@@ -1,26 +1,24 @@
 -- Counting findings.
-use Prim.Native.Nat.{ℕ, zero, suc, ◌+◌, ◌-◌, ◌*◌, ◌<◌, ◌≤◌}
-use mathlib.Core.Path.{◌≡◌, refl, sym, ap, ◌∙◌, subst}
-use mathlib.Core.Bool.{Bool, true, false}
-use mathlib.Core.Logic.{◌⊎◌, inl, inr, ◌≢◌}
-use mathlib.Core.List.{List, [], ◌∷◌, ◌++◌}
+use Prim.Native.Nat.{ℕ, zero, suc, ◌+◌, ◌*◌, ◌<◌, ◌≤◌}
+use mathlib.Core.Path.{◌≡◌, refl, ap, ◌∙◌, subst}
+use mathlib.Core.Logic.{◌⊎◌, inl, inr}
+use mathlib.Core.List.{List, [], ◌∷◌}
 use native.Mathlib.Omega.{arith}
-use native.Mathlib.Numerals.{add-one}
 use lib.Dec.{eqb}
 use lib.ListN.{length, get_or, set, take, length-append, get_or-eq_default}
 use lib.Seq.{take-suc, take_all, length-take-le}
 use Rattle.model.specs.Format.{actions_of, form_of}
-use Rattle.model.specs.Problem.{Action, action, Node, terminal, decision, Problem, Cell, states, node_at, action_at}
+use Rattle.model.specs.Problem.{Action, Node, terminal, decision, Problem, states, node_at, action_at}
 use Rattle.model.specs.Read.{problem_of}
 use Rattle.layout.proofs.Shapes.{node-shaped, member}
-use Rattle.layout.specs.Shape.{ActionsShaped, NodeShaped, Shaped, Inside}
+use Rattle.layout.specs.Shape.{ActionsShaped, NodeShaped, Inside}
 use Rattle.theory.proofs.Basics.{lt-or-le}
 use Rattle.order.proofs.Counting.{one-most}
 use Rattle.rearrange.proofs.Waits.{counted-length, counted-at, counted-append, outset}
-use Rattle.order.specs.Times.{one, times}
+use Rattle.order.specs.Times.{times}
 use Rattle.rearrange.specs.Waits.{found, found_at, found_below, waiting, counted}
 use Rattle.sheet.proofs.Laws.{actions_at, is-terminal, is-decision}
-use Rattle.sheet.specs.Sheet.{Sheet, Within, Terminal, Decision}
+use Rattle.sheet.specs.Sheet.{Within, Terminal, Decision}
 use Rattle.rearrange.proofs.Releasing.{found-more}
 
 times-most : (u : ℕ) (ts : List ℕ) → times u ts ≤ length ts

@@ -7,9 +7,9 @@ use mathlib.Core.List.{List, [], ◌∷◌, ◌++◌}
 use native.Mathlib.Omega.{arith}
 use borrow.Author.Tests.{eqb-true, eq-eqb, ne_eqb}
 use lib.Dec.{eqb}
-use lib.ListN.{length, get_or, set, length-set, length-append}
+use lib.ListN.{length, set, length-set}
 use lib.Seq.{get_or-set_same, get_or-set_other}
-use Rattle.model.proofs.TestLaws.{every_true, true-every, every-false, never}
+use Rattle.model.proofs.TestLaws.{every_true, true-every, never}
 use Rattle.model.specs.Format.{actions_of}
 use Rattle.model.specs.Optimal.{sum_below}
 use Rattle.model.specs.Problem.{Action, Node, terminal, decision, Problem, states, node_at}

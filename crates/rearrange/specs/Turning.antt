@@ -1,7 +1,7 @@
 -- What the contracts of the private functions suppose and say.
-use Rattle.std.specs.Prelude.{ℕ, ◌+◌, ◌-◌, ◌<◌, ◌≤◌, ◌≡◌, ◌⊎◌, List, [], ◌∷◌, ◌++◌, length, take, drop}
+use Rattle.std.specs.Prelude.{ℕ, ◌+◌, ◌-◌, ◌<◌, ◌≤◌, ◌≡◌, ◌⊎◌, List, ◌++◌, length, take, drop}
 use Rattle.model.specs.Limits.{max_bytes}
-use Rattle.model.specs.Problem.{Problem, Cell, states, ◌∈◌}
+use Rattle.model.specs.Problem.{Problem, states, ◌∈◌}
 use Rattle.model.specs.Format.{write}
 use Rattle.model.specs.Read.{problem_of, cells_of}
 use Rattle.sheet.specs.Sheet.{Within}

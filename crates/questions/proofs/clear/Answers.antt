@@ -1,8 +1,8 @@
-use Prim.Native.Nat.{◌-◌, ◌≤◌, max}
+use Prim.Native.Nat.{◌-◌}
 use mathlib.Core.Path.{◌≡◌, refl}
-use mathlib.Core.List.{◌++◌, append-nil}
+use mathlib.Core.List.{append-nil}
 use native.Mathlib.Omega.{arith}
-use lib.ListN.{length, take, replicate, length-set}
+use lib.ListN.{take, length-set}
 use Rattle.questions.proofs.Reading.{cleared_more, cleared-all}
 use Rattle.questions.proofs.clear.Goals as goal
 
@@ -16,13 +16,12 @@ loop-i-smaller c =
     simp length-set (omega arith)
 
 pub loop-i-preserved : goal.loop-i-preserved
-loop-i-preserved c =
-    (
-      omega (arith, c.loop-i.invariant.0),
-      simp length-set (omega arith),
-      simp length-set c.loop-i.invariant.2,
-      cleared_more c.args.table.now c.loop-i.table c.args.from c.loop-i.i c.loop-i.invariant.0 (omega arith) c.loop-i.invariant.3,
-    )
+loop-i-preserved c = (
+  omega (arith, c.loop-i.invariant.0),
+  simp length-set (omega arith),
+  simp length-set c.loop-i.invariant.2,
+  cleared_more c.args.table.now c.loop-i.table c.args.from c.loop-i.i c.loop-i.invariant.0 (omega arith) c.loop-i.invariant.3,
+)
 
 pub returns : goal.returns
 returns c =

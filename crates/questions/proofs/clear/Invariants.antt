@@ -1,9 +1,7 @@
 use Prim.Native.Nat.{◌-◌, ◌≤◌, max}
-use mathlib.Core.Path.{◌≡◌, refl}
-use mathlib.Core.List.{◌++◌, append-nil}
-use native.Mathlib.Omega.{arith}
-use lib.ListN.{length, take, replicate, length-set}
-use Rattle.questions.proofs.Reading.{cleared_more, cleared-all}
+use mathlib.Core.Path.{◌≡◌}
+use mathlib.Core.List.{◌++◌}
+use lib.ListN.{length, take, replicate}
 use Rattle.questions.proofs.clear.Given as goal
 
 abbrev pub invariant-loop-i : goal.invariant-loop-i

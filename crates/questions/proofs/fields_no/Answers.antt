@@ -30,15 +30,15 @@ laid c =
 
 pub returns-then-sheet-lt-MIN_BYTES : goal.returns-then-sheet-lt-MIN_BYTES
 returns-then-sheet-lt-MIN_BYTES c = record {
-      value = too_short _ _ _ c.if-sheet-lt-MIN_BYTES.true;
-      table_after = λ z. absurd (omega arith);
-    }
+  value = too_short _ _ _ c.if-sheet-lt-MIN_BYTES.true;
+  table_after = λ z. absurd (omega arith);
+}
 
 pub returns-then-sheet-gt-MAX_BYTES : goal.returns-then-sheet-gt-MAX_BYTES
 returns-then-sheet-gt-MAX_BYTES c = record {
-      value = too_long _ _ _ c.if-sheet-lt-MIN_BYTES.false c.if-sheet-gt-MAX_BYTES.true;
-      table_after = λ z. absurd (omega arith);
-    }
+  value = too_long _ _ _ c.if-sheet-lt-MIN_BYTES.false c.if-sheet-gt-MAX_BYTES.true;
+  table_after = λ z. absurd (omega arith);
+}
 
 pub head_in_place-requires : goal.head_in_place-requires
 head_in_place-requires c = omega arith
@@ -60,9 +60,9 @@ returns-then-f-2 c =
 
 pub returns-else-f-2 : goal.returns-else-f-2
 returns-else-f-2 c = record {
-      value = no-10 (laid (goal.at.returns-else-f-2 c).Then-f) _ (c.read_fields-f.ensures.counts_value c.if-f.true) c.if-f-2.false;
-      table_after = λ z. absurd (omega arith);
-    }
+  value = no-10 (laid (goal.at.returns-else-f-2 c).Then-f) _ (c.read_fields-f.ensures.counts_value c.if-f.true) c.if-f-2.false;
+  table_after = λ z. absurd (omega arith);
+}
 
 pub returns-else-f : goal.returns-else-f
 returns-else-f c =

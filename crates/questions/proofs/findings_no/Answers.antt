@@ -18,17 +18,17 @@ six c b e =
 
 pub all_pass-requires : goal.all_pass-requires
 all_pass-requires c = record {
-      n_nonzero = c.requires.n_nonzero;
-      n_value = c.requires.n_value;
-      before = tt;
-    }
+  n_nonzero = c.requires.n_nonzero;
+  n_value = c.requires.n_value;
+  before = tt;
+}
 
 pub all_pass-requires-then-all_pass : goal.all_pass-requires-then-all_pass
 all_pass-requires-then-all_pass c = record {
-      n_nonzero = c.requires.n_nonzero;
-      n_value = c.requires.n_value;
-      before = tt;
-    }
+  n_nonzero = c.requires.n_nonzero;
+  n_value = c.requires.n_value;
+  before = tt;
+}
 
 pub returns-then-all_pass-2 : goal.returns-then-all_pass-2
 returns-then-all_pass-2 c =

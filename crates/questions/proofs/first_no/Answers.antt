@@ -30,6 +30,6 @@ returns-then-no-eq0 c =
 
 pub returns-else-no-eq0 : goal.returns-else-no-eq0
 returns-else-no-eq0 c = record {
-      value = first_of _ _ refl _ c.fields_no-no.ensures.value c.if-no-eq0.false;
-      table_after = λ z. absurd (c.if-no-eq0.false z);
-    }
+  value = first_of _ _ refl _ c.fields_no-no.ensures.value c.if-no-eq0.false;
+  table_after = λ z. absurd (c.if-no-eq0.false z);
+}

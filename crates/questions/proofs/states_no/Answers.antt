@@ -1,7 +1,6 @@
 use mathlib.Core.Path.{refl, sym, ◌∙◌}
 use mathlib.Core.Bool.{true}
-use Rattle.model.specs.Read.{problem_of, cells_of}
-use Rattle.model.specs.Questions.{finding_questions, mark_questions}
+use Rattle.model.specs.Read.{problem_of}
 use Rattle.questions.specs.Put.{findings_by}
 use Rattle.questions.proofs.Asking.{yes-5-6, findings-inside, then-more, first_of}
 use Rattle.questions.proofs.states_no.Goals as goal

@@ -2,7 +2,7 @@ use mathlib.Core.Path.{◌≡◌, sym, ◌∙◌}
 use mathlib.Core.Bool.{true, false}
 use native.Mathlib.Omega.{arith}
 use Rattle.model.specs.Read.{problem_of, cells_of}
-use Rattle.model.specs.Questions.{question5, question6}
+use Rattle.model.specs.Questions.{question5}
 use Rattle.layout.specs.Shape.{Inside}
 use Rattle.layout.proofs.Shapes.{six-inside}
 use Rattle.questions.specs.Put.{findings_by}
@@ -21,22 +21,22 @@ inside c = six-inside _ (yes-5-6 _ _ _ (sym c.findings_no-no.ensures ∙ c.if-no
 
 pub findings_no-no-requires : goal.findings_no-no-requires
 findings_no-no-requires c = record {
-      n_nonzero = (c.requires.ready.some, c.requires.ready.within);
-      n_value = c.requires.ready.count;
-    }
+  n_nonzero = (c.requires.ready.some, c.requires.ready.within);
+  n_value = c.requires.ready.count;
+}
 
 pub places-requires : goal.places-requires
 places-requires c = record {
-      n_in_bounds = (c.requires.n_in_bounds.0, c.requires.n_in_bounds.1, omega (arith, c.requires.ready.count, c.requires.ready.within.sheet.shaped.most));
-      by_index = c.requires.n_in_bounds.2;
-    }
+  n_in_bounds = (c.requires.n_in_bounds.0, c.requires.n_in_bounds.1, omega (arith, c.requires.ready.count, c.requires.ready.within.sheet.shaped.most));
+  by_index = c.requires.n_in_bounds.2;
+}
 
 pub marks_no-requires : goal.marks_no-requires
 marks_no-requires c = record {
-      n_nonzero = (c.requires.ready.some, c.requires.ready.within);
-      n_value = c.requires.ready.count;
-      inside = (inside (goal.at.marks_no-requires c).Then-no-eq0, yes-5 (goal.at.marks_no-requires c).Then-no-eq0);
-    }
+  n_nonzero = (c.requires.ready.some, c.requires.ready.within);
+  n_value = c.requires.ready.count;
+  inside = (inside (goal.at.marks_no-requires c).Then-no-eq0, yes-5 (goal.at.marks_no-requires c).Then-no-eq0);
+}
 
 pub returns-then-places : goal.returns-then-places
 unfolding findings_by
@@ -62,6 +62,6 @@ returns-else-places c =
 pub returns-else-no-eq0 : goal.returns-else-no-eq0
 unfolding findings_by
 returns-else-no-eq0 c = record {
-      value = turn-first _ _ _ _ _ c.findings_no-no.ensures c.if-no-eq0.false;
-      inside = λ z. absurd (c.if-no-eq0.false z);
-    }
+  value = turn-first _ _ _ _ _ c.findings_no-no.ensures c.if-no-eq0.false;
+  inside = λ z. absurd (c.if-no-eq0.false z);
+}

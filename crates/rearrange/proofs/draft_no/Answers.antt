@@ -1,6 +1,6 @@
 use Prim.Native.Nat.{◌<◌}
 use mathlib.Core.Path.{◌≡◌, sym, ◌∙◌}
-use mathlib.Core.Bool.{true, false}
+use mathlib.Core.Bool.{true}
 use native.Mathlib.Omega.{arith}
 use Rattle.model.specs.Read.{problem_of, cells_of}
 use Rattle.model.specs.Questions.{question5, question6_draft}
@@ -27,17 +27,17 @@ few c = omega (arith, c.requires.ready.count, c.requires.ready.within.sheet.shap
 
 pub findings_no-no-requires : goal.findings_no-no-requires
 findings_no-no-requires c = record {
-      n_nonzero = (c.requires.ready.some, c.requires.ready.within);
-      n_value = c.requires.ready.count;
-    }
+  n_nonzero = (c.requires.ready.some, c.requires.ready.within);
+  n_value = c.requires.ready.count;
+}
 
 pub count_all-requires : goal.count_all-requires
 count_all-requires c = record {
-      n_nonzero = (c.requires.ready.some, c.requires.ready.within);
-      n_value = (c.requires.ready.count, c.requires.n_in_bounds.0, few (goal.at.count_all-requires c).Start);
-      inside = inside (goal.at.count_all-requires c).Then-no-eq0;
-      by_index = c.requires.n_in_bounds.2;
-    }
+  n_nonzero = (c.requires.ready.some, c.requires.ready.within);
+  n_value = (c.requires.ready.count, c.requires.n_in_bounds.0, few (goal.at.count_all-requires c).Start);
+  inside = inside (goal.at.count_all-requires c).Then-no-eq0;
+  by_index = c.requires.n_in_bounds.2;
+}
 
 pub place_all-placed-requires : goal.place_all-placed-requires
 place_all-placed-requires c =
@@ -50,10 +50,10 @@ place_all-placed-requires c =
 
 pub marks_no-requires : goal.marks_no-requires
 marks_no-requires c = record {
-      n_nonzero = (c.requires.ready.some, c.requires.ready.within);
-      n_value = c.requires.ready.count;
-      inside = (inside (goal.at.marks_no-requires c).Then-no-eq0, yes-5 (goal.at.marks_no-requires c).Then-no-eq0);
-    }
+  n_nonzero = (c.requires.ready.some, c.requires.ready.within);
+  n_value = c.requires.ready.count;
+  inside = (inside (goal.at.marks_no-requires c).Then-no-eq0, yes-5 (goal.at.marks_no-requires c).Then-no-eq0);
+}
 
 pub returns-then-placed-n : goal.returns-then-placed-n
 unfolding findings_by
@@ -81,6 +81,6 @@ returns-else-placed-n c =
 pub returns-else-no-eq0 : goal.returns-else-no-eq0
 unfolding findings_by
 returns-else-no-eq0 c = record {
-      value = turn-first _ _ _ _ _ c.findings_no-no.ensures c.if-no-eq0.false;
-      placed = λ z. absurd (c.if-no-eq0.false z);
-    }
+  value = turn-first _ _ _ _ _ c.findings_no-no.ensures c.if-no-eq0.false;
+  placed = λ z. absurd (c.if-no-eq0.false z);
+}

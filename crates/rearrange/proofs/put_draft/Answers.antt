@@ -1,5 +1,4 @@
 use mathlib.Core.Path.{◌∙◌}
-use native.Mathlib.Omega.{arith}
 use Rattle.rearrange.proofs.Turning.{new-renumbers, new-numbers, new-turned, new-listed}
 use Rattle.rearrange.proofs.put_draft.Goals as goal
 

@@ -1,7 +1,6 @@
-use Prim.Native.Nat.{◌-◌}
 use mathlib.Core.Path.{refl}
 use native.Mathlib.Omega.{arith}
-use Rattle.rearrange.proofs.Listing.{Copied, copied-start, copied_next, copied-end}
+use Rattle.rearrange.proofs.Listing.{copied-start, copied_next, copied-end}
 use Rattle.rearrange.proofs.put_list.Goals as goal
 
 pub loop-i-init : goal.loop-i-init

@@ -1,7 +1,5 @@
 use Prim.Native.Nat.{◌-◌}
-use mathlib.Core.Path.{refl}
-use native.Mathlib.Omega.{arith}
-use Rattle.rearrange.proofs.Listing.{Copied, copied-start, copied_next, copied-end}
+use Rattle.rearrange.proofs.Listing.{Copied}
 use Rattle.rearrange.proofs.put_list.Given as goal
 
 abbrev pub invariant-loop-i : goal.invariant-loop-i

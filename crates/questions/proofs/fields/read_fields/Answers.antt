@@ -1,14 +1,14 @@
-use Prim.Native.Nat.{suc, ◌-◌, ◌<◌}
+use Prim.Native.Nat.{◌<◌}
 use mathlib.Core.Path.{◌≡◌, ◌∙◌, sym}
 use mathlib.Core.Bool.{false}
 use mathlib.Core.Logic.{◌⊎◌, inl, inr}
 use native.Mathlib.Omega.{arith}
-use lib.ListN.{length-set, get_or, drop}
+use lib.ListN.{get_or, drop}
 use Rattle.model.proofs.TestLaws.{never}
 use Rattle.model.specs.Read.{nodes_good}
 use Rattle.model.specs.Limits.{max_actions}
 use Rattle.questions.specs.Put.{field_length, header_size}
-use Rattle.questions.proofs.Reading.{ReadingStates, ReadingActions, Turn, reading_begins, reading-ends, terminal-read}
+use Rattle.questions.proofs.Reading.{Turn, reading_begins, reading-ends, terminal-read}
 use Rattle.questions.proofs.Reading.{terminal-out, header-fits}
 use Rattle.questions.proofs.Reading.{header-out, reading-actions-begins, decision-read, action-out, action-read}
 use Rattle.questions.proofs.fields.read_fields.Goals as goal
@@ -136,17 +136,17 @@ returns-else-field_fits c =
 
 pub returns-then-n-eq-MAX_ACTIONS : goal.returns-then-n-eq-MAX_ACTIONS
 returns-then-n-eq-MAX_ACTIONS c = record {
-      in_place_value = sym (action-misfit (goal.at.returns-then-n-eq-MAX_ACTIONS c).In-loop-header (inl (omega (arith, c.loop-header.invariant.upto, c.if-n-eq-MAX_ACTIONS.true))));
-      counts_value = λ z. never z;
-      table_after = λ z. never z;
-    }
+  in_place_value = sym (action-misfit (goal.at.returns-then-n-eq-MAX_ACTIONS c).In-loop-header (inl (omega (arith, c.loop-header.invariant.upto, c.if-n-eq-MAX_ACTIONS.true))));
+  counts_value = λ z. never z;
+  table_after = λ z. never z;
+}
 
 pub returns-else-l-gt0 : goal.returns-else-l-gt0
 returns-else-l-gt0 c = record {
-      in_place_value = sym (action-misfit (goal.at.returns-else-l-gt0 c).In-loop-header (inr (omega (arith, c.action_length-l.ensures.0))));
-      counts_value = λ z. never z;
-      table_after = λ z. never z;
-    }
+  in_place_value = sym (action-misfit (goal.at.returns-else-l-gt0 c).In-loop-header (inr (omega (arith, c.action_length-l.ensures.0))));
+  counts_value = λ z. never z;
+  table_after = λ z. never z;
+}
 
 pub returns-else-size-gt0 : goal.returns-else-size-gt0
 returns-else-size-gt0 c =

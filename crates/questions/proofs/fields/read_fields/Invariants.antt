@@ -1,16 +1,6 @@
-use Prim.Native.Nat.{suc, ◌-◌, ◌<◌}
-use mathlib.Core.Path.{◌≡◌, ◌∙◌, sym}
-use mathlib.Core.Bool.{false}
-use mathlib.Core.Logic.{◌⊎◌, inl, inr}
-use native.Mathlib.Omega.{arith}
-use lib.ListN.{length-set, get_or, drop}
-use Rattle.model.proofs.TestLaws.{never}
-use Rattle.model.specs.Read.{nodes_good}
+use Prim.Native.Nat.{suc, ◌-◌}
 use Rattle.model.specs.Limits.{max_actions}
-use Rattle.questions.specs.Put.{field_length, header_size}
-use Rattle.questions.proofs.Reading.{ReadingStates, ReadingActions, Turn, reading_begins, reading-ends, terminal-read}
-use Rattle.questions.proofs.Reading.{terminal-out, header-fits}
-use Rattle.questions.proofs.Reading.{header-out, reading-actions-begins, decision-read, action-out, action-read}
+use Rattle.questions.proofs.Reading.{ReadingStates, ReadingActions}
 use Rattle.questions.proofs.fields.read_fields.Given as goal
 
 abbrev pub invariant-loop-header : goal.invariant-loop-header

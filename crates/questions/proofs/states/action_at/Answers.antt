@@ -1,7 +1,6 @@
-use Prim.Native.Nat.{◌-◌, ◌≤◌}
 use mathlib.Core.Path.{◌≡◌}
 use native.Mathlib.Omega.{arith}
-use Rattle.questions.proofs.Stepping.{Along, along-begins, along-fits, along-next}
+use Rattle.questions.proofs.Stepping.{along-begins, along-fits, along-next}
 use Rattle.questions.proofs.states.action_at.Goals as goal
 
 pub loop-k-init : goal.loop-k-init

@@ -1,7 +1,5 @@
 use Prim.Native.Nat.{◌-◌, ◌≤◌}
-use mathlib.Core.Path.{◌≡◌}
-use native.Mathlib.Omega.{arith}
-use Rattle.questions.proofs.Stepping.{Along, along-begins, along-fits, along-next}
+use Rattle.questions.proofs.Stepping.{Along}
 use Rattle.questions.proofs.states.action_at.Given as goal
 
 abbrev pub invariant-loop-k : goal.invariant-loop-k

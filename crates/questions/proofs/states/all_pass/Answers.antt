@@ -1,4 +1,3 @@
-use Prim.Native.Nat.{◌-◌, ◌≤◌}
 use mathlib.Core.Path.{◌≡◌, refl, sym, ◌∙◌}
 use mathlib.Core.Bool.{Bool, true, false}
 use native.Mathlib.Omega.{arith}
@@ -20,10 +19,10 @@ loop-s-init c =
 
 pub passes-requires : goal.passes-requires
 passes-requires c = record {
-      within = record { sheet = c.requires.n_nonzero.1.sheet; below = omega (arith, c.requires.n_value) };
-      n_value = c.requires.n_value;
-      before = c.requires.before;
-    }
+  within = record { sheet = c.requires.n_nonzero.1.sheet; below = omega (arith, c.requires.n_value) };
+  n_value = c.requires.n_value;
+  before = c.requires.before;
+}
 
 pub loop-s-preserved : goal.loop-s-preserved
 loop-s-preserved c =

@@ -1,11 +1,9 @@
 use Prim.Native.Nat.{◌-◌, ◌≤◌}
-use mathlib.Core.Path.{◌≡◌, refl, sym, ◌∙◌}
-use mathlib.Core.Bool.{Bool, true, false}
-use native.Mathlib.Omega.{arith}
+use mathlib.Core.Path.{◌≡◌}
+use mathlib.Core.Bool.{true}
 use Rattle.model.specs.Tests.{every}
 use Rattle.model.specs.Read.{problem_of, cells_of}
 use Rattle.questions.specs.Put.{passes_at}
-use Rattle.questions.proofs.Stepping.{every_more, all-stepped, stepped-out}
 use Rattle.questions.proofs.states.all_pass.Given as goal
 
 abbrev pub invariant-loop-s : goal.invariant-loop-s

@@ -1,10 +1,7 @@
-use Prim.Native.Nat.{ℕ, ◌-◌, ◌<◌, ◌≤◌}
-use mathlib.Core.List.{List}
-use mathlib.Core.Path.{◌≡◌, refl, sym, ◌∙◌}
+use Prim.Native.Nat.{◌<◌}
+use mathlib.Core.Path.{refl, sym, ◌∙◌}
 use native.Mathlib.Omega.{arith}
-use lib.ListN.{length, drop}
-use Rattle.model.specs.Read.{cells_of, action_read}
-use Rattle.model.specs.Questions.{all_solved}
+use lib.ListN.{length}
 use Rattle.questions.proofs.Stepping.{solved-more, solved-not, solved-end}
 use Rattle.questions.proofs.states.all_solved.Invariants.{successors_at}
 use Rattle.questions.proofs.states.all_solved.Goals as goal
@@ -24,9 +21,9 @@ loop-j-init c =
 
 pub successor-t-requires : goal.successor-t-requires
 successor-t-requires c = record {
-      sheet_value = c.requires.fits;
-      j_in_bounds = omega (arith, c.successor_count-m.ensures.0);
-    }
+  sheet_value = c.requires.fits;
+  j_in_bounds = omega (arith, c.successor_count-m.ensures.0);
+}
 
 pub solved_at-requires : goal.solved_at-requires
 solved_at-requires c =

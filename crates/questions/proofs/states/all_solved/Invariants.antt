@@ -1,11 +1,9 @@
-use Prim.Native.Nat.{ℕ, ◌-◌, ◌<◌, ◌≤◌}
+use Prim.Native.Nat.{ℕ, ◌-◌, ◌≤◌}
 use mathlib.Core.List.{List}
-use mathlib.Core.Path.{◌≡◌, refl, sym, ◌∙◌}
-use native.Mathlib.Omega.{arith}
-use lib.ListN.{length, drop}
+use mathlib.Core.Path.{◌≡◌}
+use lib.ListN.{drop}
 use Rattle.model.specs.Read.{cells_of, action_read}
 use Rattle.model.specs.Questions.{all_solved}
-use Rattle.questions.proofs.Stepping.{solved-more, solved-not, solved-end}
 use Rattle.questions.proofs.states.all_solved.Given as goal
 
 abbrev pub successors_at : List ℕ → ℕ → List ℕ

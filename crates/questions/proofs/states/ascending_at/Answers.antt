@@ -1,10 +1,7 @@
-use Prim.Native.Nat.{ℕ, ◌+◌, ◌-◌, ◌<◌}
+use Prim.Native.Nat.{◌+◌, ◌<◌}
 use mathlib.Core.Path.{◌≡◌, refl, sym, ◌∙◌}
-use mathlib.Core.List.{List}
 use native.Mathlib.Omega.{arith}
-use lib.ListN.{length, drop}
-use Rattle.model.specs.Read.{action_read}
-use Rattle.model.specs.Questions.{ascending}
+use lib.ListN.{length}
 use Rattle.sheet.proofs.Laws.{some-successor}
 use Rattle.questions.proofs.Stepping.{too-low, last-below, ascends}
 use Rattle.questions.proofs.states.ascending_at.Invariants.{successors_at}

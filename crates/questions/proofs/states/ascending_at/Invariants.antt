@@ -1,12 +1,9 @@
-use Prim.Native.Nat.{ℕ, ◌+◌, ◌-◌, ◌<◌}
-use mathlib.Core.Path.{◌≡◌, refl, sym, ◌∙◌}
+use Prim.Native.Nat.{ℕ, ◌-◌, ◌<◌}
+use mathlib.Core.Path.{◌≡◌}
 use mathlib.Core.List.{List}
-use native.Mathlib.Omega.{arith}
 use lib.ListN.{length, drop}
 use Rattle.model.specs.Read.{action_read}
 use Rattle.model.specs.Questions.{ascending}
-use Rattle.sheet.proofs.Laws.{some-successor}
-use Rattle.questions.proofs.Stepping.{too-low, last-below, ascends}
 use Rattle.questions.proofs.states.ascending_at.Given as goal
 
 abbrev pub successors_at : List ℕ → ℕ → List ℕ

@@ -1,14 +1,13 @@
-use Prim.Native.Nat.{◌-◌, ◌<◌}
+use Prim.Native.Nat.{◌<◌}
 use mathlib.Core.Path.{◌≡◌, refl, ◌∙◌}
-use mathlib.Core.Bool.{true}
 use native.Mathlib.Omega.{arith}
 use lib.ListN.{length}
 use Rattle.model.specs.Tests.{every}
 use Rattle.model.specs.Problem.{action_at}
 use Rattle.model.specs.Read.{problem_of}
 use Rattle.sheet.proofs.Laws.{actions_at}
-use Rattle.questions.proofs.Stepping.{Along, few, along-begins, along-stands, along-ends, along-fits, along-is, along-next}
-use Rattle.questions.proofs.Stepping.{cost_of_fits, every_more, counted-all, counted_none, cost-low, cost-high, cost-fits}
+use Rattle.questions.proofs.Stepping.{few, along-begins, along-stands, along-ends, along-fits, along-is, along-next}
+use Rattle.questions.proofs.Stepping.{every_more, counted-all, counted_none, cost-low, cost-high, cost-fits}
 use Rattle.questions.proofs.states.count_in_range.Goals as goal
 use Rattle.questions.proofs.states.count_in_range.Goals.{After-action_cost-cost, In-loop-cost}
 

@@ -1,4 +1,4 @@
-use Prim.Native.Nat.{ℕ, ◌-◌, ◌<◌}
+use Prim.Native.Nat.{◌<◌}
 use mathlib.Core.Path.{◌≡◌, refl, sym, ◌∙◌}
 use mathlib.Core.Bool.{Bool, true, false}
 use native.Mathlib.Omega.{arith}
@@ -7,7 +7,7 @@ use Rattle.model.specs.Tests.{every}
 use Rattle.model.specs.Read.{problem_of}
 use Rattle.sheet.specs.Sheet.{Decision}
 use Rattle.sheet.proofs.Laws.{actions_at}
-use Rattle.questions.proofs.Stepping.{Along, along-begins, along-stands, along-ends, along-fits, along-is, along-next}
+use Rattle.questions.proofs.Stepping.{along-begins, along-stands, along-ends, along-fits, along-is, along-next}
 use Rattle.questions.proofs.Stepping.{every_more, all-stepped, stepped-out, terminal-from, decision-from}
 use Rattle.questions.proofs.Stepping.{order_of, order-of, order-terminal}
 use Rattle.questions.proofs.states.in_steps.Goals as goal
@@ -43,9 +43,9 @@ loop-at-init c = (0, along-begins (decided (goal.at.loop-at-init c).Else-is_term
 
 pub ascending_at-requires : goal.ascending_at-requires
 ascending_at-requires c = record {
-      sheet_value = along-fits (decided (goal.at.ascending_at-requires c).Else-is_terminal) c.loop-at.invariant.1 (stands c);
-      step_bound = c.requires.step_bound;
-    }
+  sheet_value = along-fits (decided (goal.at.ascending_at-requires c).Else-is_terminal) c.loop-at.invariant.1 (stands c);
+  step_bound = c.requires.step_bound;
+}
 
 pub next_action-at-requires : goal.next_action-at-requires
 next_action-at-requires c =

@@ -1,15 +1,11 @@
-use Prim.Native.Nat.{ℕ, ◌-◌, ◌<◌}
-use mathlib.Core.Path.{◌≡◌, refl, sym, ◌∙◌}
-use mathlib.Core.Bool.{Bool, true, false}
-use native.Mathlib.Omega.{arith}
+use Prim.Native.Nat.{ℕ, ◌-◌}
+use mathlib.Core.Path.{◌≡◌}
+use mathlib.Core.Bool.{true}
 use lib.ListN.{length}
 use Rattle.model.specs.Tests.{every}
 use Rattle.model.specs.Read.{problem_of}
-use Rattle.sheet.specs.Sheet.{Decision}
-use Rattle.sheet.proofs.Laws.{actions_at}
-use Rattle.questions.proofs.Stepping.{Along, along-begins, along-stands, along-ends, along-fits, along-is, along-next}
-use Rattle.questions.proofs.Stepping.{every_more, all-stepped, stepped-out, terminal-from, decision-from}
-use Rattle.questions.proofs.Stepping.{order_of, order-of, order-terminal}
+use Rattle.questions.proofs.Stepping.{Along}
+use Rattle.questions.proofs.Stepping.{order_of}
 use Rattle.questions.proofs.states.in_steps.Given as goal
 
 abbrev pub invariant-loop-at : goal.invariant-loop-at

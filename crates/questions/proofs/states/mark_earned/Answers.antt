@@ -40,9 +40,9 @@ has_action-requires c = decided c
 
 pub chosen_action-at-requires : goal.chosen_action-at-requires
 chosen_action-at-requires c = record {
-      decision = decided (goal.at.chosen_action-at-requires c).Else-is_terminal;
-      state_in_bounds = chosen-below (decided (goal.at.chosen_action-at-requires c).Else-is_terminal) (acted c) c.requires.chosen_exists;
-    }
+  decision = decided (goal.at.chosen_action-at-requires c).Else-is_terminal;
+  state_in_bounds = chosen-below (decided (goal.at.chosen_action-at-requires c).Else-is_terminal) (acted c) c.requires.chosen_exists;
+}
 
 pub price-x-requires : goal.price-x-requires
 price-x-requires c = priced c

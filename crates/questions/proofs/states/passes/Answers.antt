@@ -13,9 +13,9 @@ in_order-requires c = c.requires.within
 
 pub value_under-requires : goal.value_under-requires
 value_under-requires c = record {
-      within = c.requires.within;
-      inside = bounds-inside _ _ _ c.requires.before c.in-Values.is;
-    }
+  within = c.requires.within;
+  inside = bounds-inside _ _ _ c.requires.before c.in-Values.is;
+}
 
 pub mark_earned-requires : goal.mark_earned-requires
 mark_earned-requires c =

@@ -1,15 +1,14 @@
-use Prim.Native.Nat.{ℕ, ◌-◌, ◌<◌}
-use mathlib.Core.Path.{◌≡◌, refl}
-use mathlib.Core.Bool.{true}
+use Prim.Native.Nat.{◌<◌}
+use mathlib.Core.Path.{refl}
 use native.Mathlib.Omega.{arith}
 use lib.ListN.{length}
 use Rattle.model.specs.Tests.{every}
-use Rattle.model.specs.Read.{problem_of, cells_of}
+use Rattle.model.specs.Read.{problem_of}
 use Rattle.sheet.specs.Sheet.{Terminal, Decision}
 use Rattle.sheet.proofs.Laws.{actions_at}
-use Rattle.questions.proofs.Stepping.{Along, along-begins, along-stands, along-ends, along-fits, along-next, along-priced}
+use Rattle.questions.proofs.Stepping.{along-begins, along-stands, along-ends, along-fits, along-next, along-priced}
 use Rattle.questions.proofs.Stepping.{every_more, all-stepped, stepped-out, under_of, terminal-from, decision-from}
-use Rattle.questions.proofs.Stepping.{under-terminal, price_over, price-over, price-under}
+use Rattle.questions.proofs.Stepping.{under-terminal, price-over, price-under}
 use Rattle.questions.proofs.states.value_under.Goals as goal
 use Rattle.questions.proofs.states.value_under.Goals.{Else-is_terminal, In-loop-x, Then-is_terminal}
 

@@ -1,8 +1,6 @@
-use Prim.Native.Nat.{◌-◌}
 use native.Mathlib.Omega.{arith}
-use Rattle.model.specs.Read.{problem_of}
 use Rattle.rearrange.proofs.Run.{stage-within}
-use Rattle.rearrange.proofs.Tally.{Census, census-start, census-length, census-room, census-next, census-end, stage-shaped}
+use Rattle.rearrange.proofs.Tally.{census-start, census-length, census-room, census-next, census-end, stage-shaped}
 use Rattle.rearrange.proofs.placing.count_all.Goals as goal
 
 pub loop-s-init : goal.loop-s-init

@@ -1,12 +1,12 @@
-use Prim.Native.Nat.{◌-◌, ◌<◌}
+use Prim.Native.Nat.{◌<◌}
 use native.Mathlib.Omega.{arith}
 use lib.ListN.{length}
 use Rattle.model.specs.Read.{problem_of}
 use Rattle.sheet.specs.Sheet.{Decision}
 use Rattle.sheet.proofs.Laws.{actions_at}
-use Rattle.questions.proofs.Stepping.{Along, few, along-begins, along-stands, along-ends, along-fits, along-is, along-next, terminal-from}
+use Rattle.questions.proofs.Stepping.{few, along-begins, along-stands, along-ends, along-fits, along-is, along-next, terminal-from}
 use Rattle.questions.proofs.Stepping.{decision-from}
-use Rattle.rearrange.proofs.Tally.{Tally, tally-start, tally-length, tally-end, tally-room, tally-next, checks-shaped}
+use Rattle.rearrange.proofs.Tally.{tally-start, tally-length, tally-end, tally-room, tally-next, checks-shaped}
 use Rattle.rearrange.proofs.Tally.{checks-below, nothing-counted}
 use Rattle.rearrange.proofs.placing.count_state.Goals as goal
 use Rattle.rearrange.proofs.placing.count_state.Goals.{Else-is_terminal, In-loop-waits}

@@ -1,8 +1,7 @@
-use Prim.Native.Nat.{◌-◌, ◌<◌}
+use Prim.Native.Nat.{◌<◌}
 use native.Mathlib.Omega.{arith}
-use lib.ListN.{length, drop}
-use Rattle.model.specs.Read.{action_read}
-use Rattle.rearrange.proofs.Tally.{Counting, counting-start, counting-in, counting-fits, counting-next, counting-length}
+use lib.ListN.{length}
+use Rattle.rearrange.proofs.Tally.{counting-start, counting-in, counting-fits, counting-next}
 use Rattle.rearrange.proofs.Tally.{counting-end}
 use Rattle.rearrange.proofs.placing.count_successors.Goals as goal
 use Rattle.rearrange.proofs.placing.count_successors.Goals.{After-successor-t}
@@ -21,9 +20,9 @@ loop-j-init c = counting-start _ _ _
 
 pub successor-t-requires : goal.successor-t-requires
 successor-t-requires c = record {
-      sheet_value = c.requires.sheet_value;
-      j_in_bounds = omega (arith, c.successor_count-m.ensures.0);
-    }
+  sheet_value = c.requires.sheet_value;
+  j_in_bounds = omega (arith, c.successor_count-m.ensures.0);
+}
 
 pub bounds-waits-t : goal.bounds-waits-t
 bounds-waits-t c = entry (goal.at.bounds-waits-t c).After-successor-t

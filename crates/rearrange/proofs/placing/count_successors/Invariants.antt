@@ -1,9 +1,7 @@
-use Prim.Native.Nat.{◌-◌, ◌<◌}
-use native.Mathlib.Omega.{arith}
-use lib.ListN.{length, drop}
+use Prim.Native.Nat.{◌-◌}
+use lib.ListN.{drop}
 use Rattle.model.specs.Read.{action_read}
-use Rattle.rearrange.proofs.Tally.{Counting, counting-start, counting-in, counting-fits, counting-next, counting-length}
-use Rattle.rearrange.proofs.Tally.{counting-end}
+use Rattle.rearrange.proofs.Tally.{Counting}
 use Rattle.rearrange.proofs.placing.count_successors.Given as goal
 
 abbrev pub invariant-loop-j : goal.invariant-loop-j

@@ -1,7 +1,5 @@
-use Prim.Native.Nat.{◌-◌}
 use mathlib.Core.Path.{◌≡◌}
 use native.Mathlib.Omega.{arith}
-use Rattle.rearrange.specs.Turning.{Marked}
 use Rattle.rearrange.proofs.Places.{marked_start, marked-hit, marked-miss}
 use Rattle.rearrange.proofs.placing.mark_places.Goals as goal
 

@@ -1,6 +1,4 @@
-use Prim.Native.Nat.{ℕ, ◌-◌, ◌<◌}
 use native.Mathlib.Omega.{arith}
-use lib.ListN.{get_or}
 use Rattle.rearrange.proofs.Releasing.{one_further}
 use Rattle.rearrange.proofs.placing.next_free.Goals as goal
 

@@ -1,7 +1,5 @@
 use Prim.Native.Nat.{ℕ, ◌-◌, ◌<◌}
-use native.Mathlib.Omega.{arith}
 use lib.ListN.{get_or}
-use Rattle.rearrange.proofs.Releasing.{one_further}
 use Rattle.rearrange.proofs.placing.next_free.Given as goal
 
 abbrev pub invariant-loop-t : goal.invariant-loop-t

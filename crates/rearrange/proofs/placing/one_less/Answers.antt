@@ -1,8 +1,7 @@
-use Prim.Native.Nat.{◌-◌}
 use mathlib.Core.Path.{refl, sym}
 use native.Mathlib.Omega.{arith}
 use Rattle.model.proofs.TestLaws.{never}
-use Rattle.rearrange.proofs.Places.{Lowered, lowered-start, lowered-next, lowered-all, lowered_none}
+use Rattle.rearrange.proofs.Places.{lowered-start, lowered-next, lowered-all, lowered_none}
 use Rattle.rearrange.proofs.placing.one_less.Goals as goal
 
 pub loop-t-init : goal.loop-t-init
@@ -28,7 +27,7 @@ loop-t-preserved c =
 
 pub returns : goal.returns
 returns c = record {
-      one_less = λ _. lowered-all c.loop-t.invariant c.requires (omega arith);
-      by_index = λ z. never (sym z);
-      len_unchanged = c.loop-t.invariant.same;
-    }
+  one_less = λ _. lowered-all c.loop-t.invariant c.requires (omega arith);
+  by_index = λ z. never (sym z);
+  len_unchanged = c.loop-t.invariant.same;
+}

@@ -1,8 +1,5 @@
 use Prim.Native.Nat.{◌-◌}
-use mathlib.Core.Path.{refl, sym}
-use native.Mathlib.Omega.{arith}
-use Rattle.model.proofs.TestLaws.{never}
-use Rattle.rearrange.proofs.Places.{Lowered, lowered-start, lowered-next, lowered-all, lowered_none}
+use Rattle.rearrange.proofs.Places.{Lowered}
 use Rattle.rearrange.proofs.placing.one_less.Given as goal
 
 abbrev pub invariant-loop-t : goal.invariant-loop-t

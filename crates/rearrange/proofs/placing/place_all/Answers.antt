@@ -1,7 +1,6 @@
-use Prim.Native.Nat.{◌-◌, ◌<◌}
+use Prim.Native.Nat.{◌<◌}
 use native.Mathlib.Omega.{arith}
-use Rattle.model.specs.Read.{problem_of}
-use Rattle.rearrange.proofs.Run.{Run, run-start, run-full, run-stuck, release-asks, run-again, stage-within, below-n}
+use Rattle.rearrange.proofs.Run.{run-start, run-full, run-stuck, release-asks, run-again, stage-within, below-n}
 use Rattle.rearrange.proofs.placing.place_all.Goals as goal
 use Rattle.rearrange.proofs.placing.place_all.Goals.{Else-t-n}
 
@@ -15,9 +14,9 @@ loop-k-init c =
 
 pub next_free-t-requires : goal.next_free-t-requires
 next_free-t-requires c = record {
-      n_in_bounds = omega (arith, c.loop-k.invariant.wide, c.requires.n_value.1);
-      by_index = c.loop-k.invariant.lows;
-    }
+  n_in_bounds = omega (arith, c.loop-k.invariant.wide, c.requires.n_value.1);
+  by_index = c.loop-k.invariant.lows;
+}
 
 pub returns-then-t-n : goal.returns-then-t-n
 returns-then-t-n c =
@@ -50,7 +49,7 @@ overflow_add-t c =
 pub release-low-requires : goal.release-low-requires
 release-low-requires c =
     let (_, within) = c.requires.n_nonzero in let (count, wide, long, _) = c.requires.n_value in let inside = c.requires.inside in let lt = below (goal.at.release-low-requires c).Else-t-n in let others = release-asks _ _ _ _ _ _ _ _ c.loop-k.invariant count wide long c.loop-k-test.true _ c.next_free-t.ensures
-          lt inside _ c.index_to_word-in-loop-k.ensures in
+    lt inside _ c.index_to_word-in-loop-k.ensures in
     record { within = stage-within _ _ _ _ within count lt; by_index = others.0; by_index_2 = others.1 }
 
 pub overflow_add-k-in-loop-k : goal.overflow_add-k-in-loop-k

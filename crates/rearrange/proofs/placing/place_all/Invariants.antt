@@ -1,7 +1,6 @@
-use Prim.Native.Nat.{◌-◌, ◌<◌}
-use native.Mathlib.Omega.{arith}
+use Prim.Native.Nat.{◌-◌}
 use Rattle.model.specs.Read.{problem_of}
-use Rattle.rearrange.proofs.Run.{Run, run-start, run-full, run-stuck, release-asks, run-again, stage-within, below-n}
+use Rattle.rearrange.proofs.Run.{Run}
 use Rattle.rearrange.proofs.placing.place_all.Given as goal
 
 abbrev pub invariant-loop-k : goal.invariant-loop-k

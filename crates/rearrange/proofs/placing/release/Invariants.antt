@@ -1,13 +1,9 @@
-use Prim.Native.Nat.{◌-◌, ◌<◌}
-use native.Mathlib.Omega.{arith}
+use Prim.Native.Nat.{◌-◌}
 use lib.ListN.{length}
 use Rattle.model.specs.Read.{problem_of}
-use Rattle.sheet.specs.Sheet.{Decision}
 use Rattle.sheet.proofs.Laws.{actions_at}
-use Rattle.questions.proofs.Stepping.{Along, few, along-begins, along-stands, along-ends, along-fits, along-is, along-next, terminal-from}
-use Rattle.questions.proofs.Stepping.{decision-from}
-use Rattle.rearrange.proofs.Releasing.{Releasing, releasing-start, releasing-length, releasing-end, releasing-enough}
-use Rattle.rearrange.proofs.Releasing.{releasing-next, nothing-found}
+use Rattle.questions.proofs.Stepping.{Along}
+use Rattle.rearrange.proofs.Releasing.{Releasing}
 use Rattle.rearrange.proofs.placing.release.Given as goal
 
 abbrev pub invariant-loop-waits : goal.invariant-loop-waits

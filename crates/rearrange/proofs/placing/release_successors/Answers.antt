@@ -1,8 +1,7 @@
-use Prim.Native.Nat.{◌-◌, ◌<◌}
+use Prim.Native.Nat.{◌<◌}
 use native.Mathlib.Omega.{arith}
-use lib.ListN.{length, get_or, drop}
-use Rattle.model.specs.Read.{action_read}
-use Rattle.rearrange.proofs.Releasing.{Lowering, lowering-start, here, lowering-next, lowering-length, lowering-end}
+use lib.ListN.{length, get_or}
+use Rattle.rearrange.proofs.Releasing.{lowering-start, here, lowering-next, lowering-end}
 use Rattle.rearrange.proofs.placing.release_successors.Goals as goal
 use Rattle.rearrange.proofs.placing.release_successors.Goals.{After-successor-t}
 
@@ -21,9 +20,9 @@ loop-j-init c = lowering-start _ _ _ _ c.requires.by_index_2
 
 pub successor-t-requires : goal.successor-t-requires
 successor-t-requires c = record {
-      sheet_value = c.requires.sheet_value;
-      j_in_bounds = omega (arith, c.successor_count-m.ensures.0);
-    }
+  sheet_value = c.requires.sheet_value;
+  j_in_bounds = omega (arith, c.successor_count-m.ensures.0);
+}
 
 pub bounds-waits-t : goal.bounds-waits-t
 bounds-waits-t c = (entry (goal.at.bounds-waits-t c).After-successor-t).1

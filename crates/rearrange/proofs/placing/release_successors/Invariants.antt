@@ -1,8 +1,7 @@
-use Prim.Native.Nat.{◌-◌, ◌<◌}
-use native.Mathlib.Omega.{arith}
-use lib.ListN.{length, get_or, drop}
+use Prim.Native.Nat.{◌-◌}
+use lib.ListN.{drop}
 use Rattle.model.specs.Read.{action_read}
-use Rattle.rearrange.proofs.Releasing.{Lowering, lowering-start, here, lowering-next, lowering-length, lowering-end}
+use Rattle.rearrange.proofs.Releasing.{Lowering}
 use Rattle.rearrange.proofs.placing.release_successors.Given as goal
 
 abbrev pub invariant-loop-j : goal.invariant-loop-j

@@ -1,4 +1,3 @@
-
 use Rattle.sheet.proofs.fields.action_here.Goals as goal
 
 pub returns : goal.returns

@@ -1,13 +1,11 @@
-use Prim.Native.Nat.{ℕ, ◌+◌, ◌*◌, ◌-◌, ◌<◌, ◌≤◌}
+use Prim.Native.Nat.{◌+◌, ◌*◌, ◌<◌, ◌≤◌}
 use mathlib.Core.Path.{◌≡◌, refl, sym, ap, ◌∙◌}
-use mathlib.Core.List.{List}
 use native.Mathlib.Omega.{arith}
 use lib.ListN.{length, drop}
-use Rattle.model.specs.Problem.{value_of}
-use Rattle.model.specs.Read.{problem_of, cells_of, action_read}
+use Rattle.model.specs.Read.{problem_of, action_read}
 use Rattle.model.specs.Limits.{max_successors}
 use Rattle.sheet.specs.Sheet.{of_kind, written_price}
-use Rattle.sheet.proofs.Joining.{of-kind-fits, Sums, sums_none, sums-more, sums-price, sums-dearest}
+use Rattle.sheet.proofs.Joining.{of-kind-fits, sums_none, sums-more, sums-price, sums-dearest}
 use Rattle.sheet.proofs.Laws.{action-inside, some-successor, head-room}
 use Rattle.sheet.proofs.pricing.price.Invariants.{successors_at, SumsAt}
 use Rattle.sheet.proofs.pricing.price.Goals as goal
@@ -32,9 +30,9 @@ turned c =
 
 pub successor-dearest-requires : goal.successor-dearest-requires
 successor-dearest-requires c = record {
-      sheet_value = c.requires.fits;
-      j_in_bounds = has-successor (goal.at.successor-dearest-requires c).Start;
-    }
+  sheet_value = c.requires.fits;
+  j_in_bounds = has-successor (goal.at.successor-dearest-requires c).Start;
+}
 
 pub loop-j-init : goal.loop-j-init
 loop-j-init c =

@@ -1,14 +1,9 @@
-use Prim.Native.Nat.{ℕ, ◌+◌, ◌*◌, ◌-◌, ◌<◌, ◌≤◌}
-use mathlib.Core.Path.{◌≡◌, refl, sym, ap, ◌∙◌}
+use Prim.Native.Nat.{ℕ, ◌-◌, ◌<◌}
 use mathlib.Core.List.{List}
-use native.Mathlib.Omega.{arith}
 use lib.ListN.{length, drop}
 use Rattle.model.specs.Problem.{value_of}
-use Rattle.model.specs.Read.{problem_of, cells_of, action_read}
-use Rattle.model.specs.Limits.{max_successors}
-use Rattle.sheet.specs.Sheet.{of_kind, written_price}
-use Rattle.sheet.proofs.Joining.{of-kind-fits, Sums, sums_none, sums-more, sums-price, sums-dearest}
-use Rattle.sheet.proofs.Laws.{action-inside, some-successor, head-room}
+use Rattle.model.specs.Read.{cells_of, action_read}
+use Rattle.sheet.proofs.Joining.{Sums}
 use Rattle.sheet.proofs.pricing.price.Given as goal
 
 abbrev pub successors_at : List ℕ → ℕ → List ℕ

@@ -1,7 +1,5 @@
 use Prim.Native.Nat.{◌-◌}
-use native.Mathlib.Omega.{arith}
-use Rattle.layout.proofs.Wrote.{wrote-length}
-use Rattle.sheet.proofs.Putting.{Rowing, rowing_start, rowing-room, rowing-next, rowing-end}
+use Rattle.sheet.proofs.Putting.{Rowing}
 use Rattle.sheet.proofs.put.put_row.Given as goal
 
 abbrev pub invariant-loop-j : goal.invariant-loop-j
