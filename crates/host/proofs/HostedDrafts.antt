@@ -11,7 +11,7 @@ use Rattle.model.specs.Limits.{max_states}
 use Rattle.model.specs.Problem.{states}
 use Rattle.model.specs.Format.{head_tag, draft_tag}
 use Rattle.model.specs.Read.{problem_of}
-use Rattle.model.specs.Questions.{question, field_questions, first_no}
+use Rattle.model.specs.Questions.{question, first_no}
 use Rattle.model.specs.Report.{on_refusal}
 use Rattle.model.proofs.TestLaws.{all_true}
 use Rattle.model.proofs.QuestionLaws.{first-from, none-no}
@@ -21,7 +21,7 @@ use Rattle.questions.proofs.Asking.{verdict-number}
 use Rattle.questions.specs.declared.Verdict.{Verdict}
 use Rattle.questions.specs.declared.Verdict.TheVariants.{Accepted, Refused}
 use Rattle.order.specs.Order.{order}
-use Rattle.order.specs.Asking.{question1_lent, question11_back, draft_questions, back_questions, rearrange_refusal, restore_refusal}
+use Rattle.order.specs.Asking.{question1_lent, draft_questions, back_questions, rearrange_refusal, restore_refusal}
 use Rattle.order.specs.Asking.{restored_bytes, output_given, rearranged_output, rearranged_list, rearranged_table, restored_output, restored_table}
 use Rattle.order.proofs.Sheets.{unrefused-draft}
 use Rattle.order.proofs.Unread.{back-same}
