@@ -31,8 +31,7 @@ document() {
         -e 's#\]\(\.\./docs/#](../#g' -e 's#\]\(\.\./samples/#](samples/#g' "$1" >"$2"
 }
 
-rt check price
-rt staticlib host
+./build.sh
 version=$(sed -n 's/^#define LDFS_VERSION "\(.*\)"$/\1/p' include/ldfs.h)
 [ -n "$version" ] || { echo "$0: include/ldfs.h has no LDFS_VERSION" >&2 && exit 1; }
 

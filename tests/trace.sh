@@ -25,7 +25,7 @@ declared=$(grep -oE "\*\*$id\*\*" docs/SPEC.md | tr -d '*' | sort -u)
 answered=$(grep -oE "^\| $id \|" docs/PROMISES.md | tr -d '| ' | sort -u)
 cited=$(git ls-files | grep -vE '\.sheet$' | xargs grep -ohE "\b$id\b" | sort -u)
 edits=$(ls crates/*/must-fail/*.edit | sed -E 's|crates/(.*)/must-fail/(.*)\.edit|\1/\2|' | sort -u)
-crates=$(sed -nE 's/^([a-z]+):.*/\1/p' crates.txt | paste -sd '|')
+crates=$(sed -nE 's/^([a-z]+)( staticlib)?:.*/\1/p' crates.txt | paste -sd '|')
 named=$(quoted <docs/PROMISES.md | grep -E "^($crates)/[a-z0-9_]+$" | sort -u)
 
 [ -n "$declared" ] && [ -n "$cited" ] || { echo "no id is declared, or none is cited" && exit 1; }
@@ -43,16 +43,16 @@ told=$({
   grep -vE "^\| $id \|" docs/PROMISES.md | quoted | grep -E '[a-z]-[a-z]|::'
 } | grep -E "$name" | sed 's/.*:://' | sort -u)
 there=$({
-  find crates -name '*.antt' -print0 | xargs -0 grep -ohE '^ *(unfoldable |abbrev )?pub (record |data )?[^ :({]+' | sed 's/.* //'
-  find crates -name '*.rt' -print0 | xargs -0 grep -ohE '\bfn [a-z0-9_]+' | sed 's/fn //'
-  find crates -name '*.antt' -printf '%f\n' | sed 's/\.antt$//'
+  find crates -name out -prune -o -name '*.antt' -print0 | xargs -0 grep -ohE '^ *(unfoldable |abbrev )?pub (record |data )?[^ :({]+' | sed 's/.* //'
+  find crates -name out -prune -o -name '*.rt' -print0 | xargs -0 grep -ohE '\bfn [a-z0-9_]+' | sed 's/fn //'
+  find crates -name out -prune -o -name '*.antt' -printf '%f\n' | sed 's/\.antt$//'
   tr '|' '\n' <<<"$crates"
 } | sort -u)
 [ -n "$told" ] || { echo "docs/PROMISES.md names no theorem" && exit 1; }
 each "is named in docs/PROMISES.md, and nothing of that name is public, or is a function" < <(comm -23 <(echo "$told") <(echo "$there"))
 
 # Published functions: each `pub fn` and `pub extern "C" fn` is named, by its path in its crate, in the part on published functions.
-published=$(find crates -name '*.rt' -print0 | xargs -0 grep -oE '^ *pub (extern "C" )?fn [a-z0-9_]+' |
+published=$(find crates -name out -prune -o -name '*.rt' -print0 | xargs -0 grep -oE '^ *pub (extern "C" )?fn [a-z0-9_]+' |
   sed -E 's|crates/([a-z]+)/src/(.*)\.rt: *pub .*fn (.*)|\1::\2::\3|; s/::(lib|main)::/::/' | sort -u)
 listed=$(sed -n '/^## The published functions/,/^## [^T]/p' docs/PROMISES.md | quoted | sort -u)
 [ -n "$published" ] || { echo "no function is published" && exit 1; }
