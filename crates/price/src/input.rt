@@ -2,6 +2,7 @@
 ghost use Rattle.io.specs.Counts.{IsPrefixLen};
 
 use crate::output::fail;
+use std::io::Read;
 
 // What became of the input: the number of bytes that were read, and whether a read failed.
 #[derive(Clone, Copy)]
@@ -11,27 +12,29 @@ pub(crate) struct Input {
 }
 
 // Reads until the buffer is full, the input ends, or a read fails, which it says on standard error by the input's name (S10.6).
-pub(crate) fn read(fd: i32, name: &[u8], buf: &mut [u8]) -> Input
+pub(crate) fn read(errors: &impl Print, from: &mut impl Read, name: &[u8], buf: &mut [u8]) -> Input
     ensures { IsPrefixLen result.count buf.new }
 {
     let mut count: usize = 0;
     while count < buf.len() {
-        let got = libc::read(fd, &mut buf[count..]);
-        if got < 0 {
-            fail(name);
-            return Input {
-                count,
-                failed: true,
-            };
+        match from.read(&mut buf[count..]) {
+            Ok(0) => {
+                return Input {
+                    count,
+                    failed: false,
+                };
+            }
+            Ok(more) => {
+                count += more;
+            }
+            Err(e) => {
+                fail(errors, name, &e);
+                return Input {
+                    count,
+                    failed: true,
+                };
+            }
         }
-        let more = io::count(got, &buf[count..]);
-        if more == 0 {
-            return Input {
-                count,
-                failed: false,
-            };
-        }
-        count += more;
     }
     Input {
         count,

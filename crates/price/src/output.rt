@@ -1,41 +1,61 @@
 // Writing: the listing on standard output, and what is said on standard error.
 use crate::words::words;
-use libc::{STDERR_FILENO, STDOUT_FILENO};
 use listing::write_number;
 use model::Outcome;
+use std::io::{Cursor, Write};
+use std::{io, str};
 
-// Says on standard error what failed and why (S10.6). The reason is errno's, which the write before it leaves alone where it succeeds.
-pub(crate) fn fail(what: &[u8]) {
-    io::write_all(STDERR_FILENO, b"price: ");
-    os::fail(what);
+// The bytes that the text of any error has room in: a reason of at most 256 bytes, and the error's number behind it.
+const ROOM: usize = 320;
+
+// Says on standard error why a call failed, as the C library words it: an error's own text has its number behind that, which is left out.
+fn reason(errors: &impl Print, error: &io::Error) {
+    let mut text = Cursor::new([0u8; ROOM]);
+    let _ = write!(text, "{error}");
+    let bytes = text.into_inner();
+    let text = str::from_utf8(&bytes).unwrap_or("");
+    let words = match text.split_once(" (os error ") {
+        Some((words, _)) => words,
+        None => text.trim_end_matches('\0'),
+    };
+    let _ = errors.write_all(words.as_bytes());
+}
+
+// Says on standard error what failed and why (S10.6).
+pub(crate) fn fail(errors: &impl Print, what: &[u8], error: &io::Error) {
+    let _ = errors.write_all(b"price: ");
+    let _ = errors.write_all(what);
+    let _ = errors.write_all(b": ");
+    reason(errors, error);
+    let _ = errors.write_all(b"\n");
 }
 
 // Says why standard output could not be written, unless all of it was (S10.6).
-pub(crate) fn fail_unless(written: bool) {
-    if !written {
-        fail(b"standard output");
+pub(crate) fn fail_unless(errors: &impl Print, written: io::Result<()>) {
+    if let Err(error) = written {
+        fail(errors, b"standard output", &error);
     }
 }
 
 // Writes a listing on standard output, or says why it cannot (S10.2, S10.6).
-pub(crate) fn write(text: &[u8]) {
-    fail_unless(io::write_all(STDOUT_FILENO, text));
+pub(crate) fn write(output: &impl Print, errors: &impl Print, text: &[u8]) {
+    fail_unless(errors, output.write_all(text));
 }
 
 // Writes a number as a listing has it (S10.4). No number has more digits than the buffer has bytes (S10.10).
-fn write_decimal(fd: i32, x: u64) {
+fn write_decimal(to: &impl Print, x: u64) {
     let mut text = [0u8; 20];
     let n = write_number(&mut text, x);
-    io::write_all(fd, &text[..n]);
+    let _ = to.write_all(&text[..n]);
 }
 
 // Explains a refusal on standard error (S10.5), of a sheet whose first byte is `tag`; no other outcome needs it.
-pub(crate) fn explain(o: Outcome, tag: u8) {
+pub(crate) fn explain(errors: &impl Print, o: Outcome, tag: u8) {
     match o {
         Outcome::Refused(n) => {
-            io::write_all(STDERR_FILENO, b"price: refused ");
-            write_decimal(STDERR_FILENO, n as u64);
-            words(STDERR_FILENO, n, tag);
+            let _ = errors.write_all(b"price: refused ");
+            write_decimal(errors, n as u64);
+            let _ = words(errors, n, tag);
         }
         Outcome::Settled => {}
         Outcome::Over => {}

@@ -1,10 +1,10 @@
 // How the program is used, its version, and why a sheet is refused, in words.
 use model::format;
+use std::io;
 
-// Writes how the program is used (S10.8), and answers whether all of it was written.
-pub(crate) fn usage(fd: i32) -> bool {
-    io::write_all(
-        fd,
+// Writes how the program is used (S10.8), or answers why not all of it was written.
+pub(crate) fn usage(to: &impl Print) -> io::Result<()> {
+    to.write_all(
         b"usage: price [FILE]
        price --help
        price --version
@@ -44,21 +44,19 @@ share/doc/ldfs.
     )
 }
 
-// Writes the version (S10.11), which is that of the C header, and answers whether all of it was written.
-pub(crate) fn version(fd: i32) -> bool {
-    io::write_all(fd, b"price 2.4.0\n")
+// Writes the version (S10.11), which is that of the C header, or answers why not all of it was written.
+pub(crate) fn version(to: &impl Print) -> io::Result<()> {
+    to.write_all(b"price 2.4.0\n")
 }
 
 // Why a sheet that begins with this tag has no head (S4.3): a draft is to be rearranged first (S13.1).
-fn head_words(fd: i32, tag: u8) -> bool {
+fn head_words(to: &impl Print, tag: u8) -> io::Result<()> {
     if tag == format::DRAFT_TAG {
-        io::write_all(
-            fd,
+        to.write_all(
             b" (S4.3): the head has tag 06, so this is a draft, which is to be rearranged first (ldfs_rearrange)\n",
         )
     } else {
-        io::write_all(
-            fd,
+        to.write_all(
             b" (S4.3): there is no head, or its kind, number of stages or start is out of range\n",
         )
     }
@@ -66,39 +64,30 @@ fn head_words(fd: i32, tag: u8) -> bool {
 
 // Writes the id of the question with this number and what its "no" means (S4, S10.5), and ends the line; `tag` is the sheet's first byte. A
 // number that no question has gets no words.
-pub(crate) fn words(fd: i32, n: u32, tag: u8) -> bool {
+pub(crate) fn words(to: &impl Print, n: u32, tag: u8) -> io::Result<()> {
     match n {
-        1 => io::write_all(
-            fd,
-            b" (S4.1): the index table has no room for 4,096 entries\n",
-        ),
-        2 => io::write_all(fd, b" (S4.2): the sheet's size is not 17 to 60,000 bytes\n"),
-        3 => head_words(fd, tag),
-        4 => io::write_all(
-            fd,
+        1 => to.write_all(b" (S4.1): the index table has no room for 4,096 entries\n"),
+        2 => to.write_all(b" (S4.2): the sheet's size is not 17 to 60,000 bytes\n"),
+        3 => head_words(to, tag),
+        4 => to.write_all(
             b" (S4.4): the fields behind the head are not exactly its stages, whole and in order\n",
         ),
-        5 => io::write_all(
-            fd,
+        5 => to.write_all(
             b" (S4.5): a cost, a value, a mark or a chosen check is out of its range\n",
         ),
-        6 => io::write_all(
-            fd,
+        6 => to.write_all(
             b" (S4.6): findings are not ascending (strictly on a worst sheet), above their junction and below the number of stages\n",
         ),
-        7 => io::write_all(
-            fd,
+        7 => to.write_all(
             b" (S4.7): a value is above the cost of its ending, or above the price of a check of its junction\n",
         ),
-        8 => io::write_all(
-            fd,
+        8 => to.write_all(
             b" (S4.8): a mark says settled, and the stage's value or a finding of its chosen check does not\n",
         ),
-        9 => io::write_all(fd, b" (S4.9): the budget is 0\n"),
-        10 => io::write_all(
-            fd,
+        9 => to.write_all(b" (S4.9): the budget is 0\n"),
+        10 => to.write_all(
             b" (S4.10): a counted junction writes another number of checks than follow it\n",
         ),
-        _ => io::write_all(fd, b"\n"),
+        _ => to.write_all(b"\n"),
     }
 }

@@ -55,15 +55,16 @@ pub(crate) fn option(options: Options, command: u8, first: u64, last: u64) -> Op
 }
 
 // The end of a label that speaks of the table.
-fn heading(entries: usize) {
+fn heading(rt: &impl Print, entries: usize) {
     if 0 < entries {
-        word(b"-table");
-        number(entries as u64);
+        word(rt, b"-table");
+        number(rt, entries as u64);
     }
 }
 
 // The call: `solve` at `!` and `+`, and `check` at `?` and `.`.
 fn call(
+    rt: &impl Print,
     command: u8,
     sheet: &mut [u8; MOST],
     n: usize,
@@ -74,30 +75,30 @@ fn call(
     match command {
         b'!' | b'+' => {
             let before = *sheet;
-            worked(sheet, n, table, size, budget, &before)
+            worked(rt, sheet, n, table, size, budget, &before)
         }
-        _ => asked(sheet, n, table, size),
+        _ => asked(rt, sheet, n, table, size),
     }
 }
 
 // The end of a line that speaks of the table.
-fn ending(entries: usize, table: &[u32; LONGEST]) {
+fn ending(rt: &impl Print, entries: usize, table: &[u32; LONGEST]) {
     if 0 < entries {
-        tally(table, entries);
+        tally(rt, table, entries);
     }
-    word(b"\n");
+    word(rt, b"\n");
 }
 
 // A case on the first `n` bytes of a sheet, or on fewer: its line behind its label.
-pub(crate) fn case(command: u8, sheet: &mut [u8; MOST], n: usize, o: Options) {
+pub(crate) fn case(rt: &impl Print, command: u8, sheet: &mut [u8; MOST], n: usize, o: Options) {
     let mut table = [0u32; LONGEST];
     let most = o.bytes;
     let entries = o.entries;
     let n = if most < n { most } else { n };
     let size = if entries == 0 { MAX_STATES } else { entries };
     spoil(&mut table);
-    heading(entries);
-    call(command, sheet, n, &mut table, size, o.budget);
-    show(&table, o.from, o.end);
-    ending(entries, &table);
+    heading(rt, entries);
+    call(rt, command, sheet, n, &mut table, size, o.budget);
+    show(rt, &table, o.from, o.end);
+    ending(rt, entries, &table);
 }

@@ -24,25 +24,25 @@ pub(crate) fn start() -> State {
 }
 
 // A line that lays the base or goes on with it.
-fn build(s: State, l: Line, hex: &[u8; ROOM], base: &mut [u8; MOST]) -> State {
+fn build(rt: &impl Print, s: State, l: Line, hex: &[u8; ROOM], base: &mut [u8; MOST]) -> State {
     let mut t = s;
     let c = l.command;
     let n = s.base;
     match c {
         b'=' => {
-            t.base = paste(base, 0, hex, l.bytes);
+            t.base = paste(rt, base, 0, hex, l.bytes);
             t
         }
         b' ' => {
-            t.base = paste(base, n, hex, l.bytes);
+            t.base = paste(rt, base, n, hex, l.bytes);
             t
         }
         b'*' => {
-            t.base = repeat(base, n, l.first as usize, l.last as usize);
+            t.base = repeat(rt, base, n, l.first as usize, l.last as usize);
             t
         }
         b'>' => {
-            t.base = chain(base, n, l.last);
+            t.base = chain(rt, base, n, l.last);
             t
         }
         _ => t,
@@ -50,16 +50,23 @@ fn build(s: State, l: Line, hex: &[u8; ROOM], base: &mut [u8; MOST]) -> State {
 }
 
 // The line of a case, on a sheet of `n` bytes into which the line's bytes are put.
-fn run_case(s: State, l: Line, hex: &[u8; ROOM], sheet: &mut [u8; MOST], n: usize) -> State {
+fn run_case(
+    rt: &impl Print,
+    s: State,
+    l: Line,
+    hex: &[u8; ROOM],
+    sheet: &mut [u8; MOST],
+    n: usize,
+) -> State {
     let mut t = s;
     let o = s.options;
     let at = l.first as usize;
     if n < at {
-        slip();
+        slip(rt);
     }
-    let end = paste(sheet, at, hex, l.bytes);
+    let end = paste(rt, sheet, at, hex, l.bytes);
     let m = if n < end { end } else { n };
-    case(l.command, sheet, m, o);
+    case(rt, l.command, sheet, m, o);
     let o = plain();
     t.sheet = m;
     t.options = o;
@@ -68,6 +75,7 @@ fn run_case(s: State, l: Line, hex: &[u8; ROOM], sheet: &mut [u8; MOST], n: usiz
 
 // Does what a line asks for.
 pub(crate) fn obey(
+    rt: &impl Print,
     s: State,
     l: Line,
     hex: &[u8; ROOM],
@@ -79,15 +87,15 @@ pub(crate) fn obey(
     match c {
         b'?' | b'!' => {
             *sheet = *base;
-            run_case(s, l, hex, sheet, s.base)
+            run_case(rt, s, l, hex, sheet, s.base)
         }
-        b'.' | b'+' => run_case(s, l, hex, sheet, s.sheet),
+        b'.' | b'+' => run_case(rt, s, l, hex, sheet, s.sheet),
         b'$' | b'^' | b'%' | b'&' => {
             let o = s.options;
             let o = option(o, c, l.first, l.last);
             t.options = o;
             t
         }
-        _ => build(s, l, hex, base),
+        _ => build(rt, s, l, hex, base),
     }
 }

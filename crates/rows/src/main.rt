@@ -39,7 +39,10 @@ mod cases; // cases.rt: a case and its options
 mod text; // text.rt: a line of the text, read a byte at a time
 mod commands; // commands.rt: what a line asks for
 
+ghost use Rattle.io.specs.Counts.{IsPrefixLen};
+
 use commands::{obey, start};
+use std::io::Read;
 use text::{ROOM, ended, fresh, read};
 use words::slip;
 
@@ -49,8 +52,11 @@ const MOST: usize = 60001;
 // The entries of the longest table.
 const LONGEST: usize = 4200;
 
+// A byte more than the text of the cases may have.
+const LONGEST_TEXT: usize = 65536;
+
 // Runs the cases of a text.
-fn run(text: &[u8]) {
+fn run(rt: &impl Print, text: &[u8]) {
     let mut base = [0u8; MOST];
     let mut sheet = [0u8; MOST];
     let mut hex = [0u8; ROOM];
@@ -61,21 +67,37 @@ fn run(text: &[u8]) {
         let b = text[i];
         i += 1;
         if b == b'\n' {
-            ended(line);
-            state = obey(state, line, &hex, &mut base, &mut sheet);
+            ended(rt, line);
+            state = obey(rt, state, line, &hex, &mut base, &mut sheet);
             line = fresh();
         } else {
-            line = read(line, b, &mut hex);
+            line = read(rt, line, b, &mut hex);
         }
     }
 }
 
-fn main() {
-    let mut text = io::large_buffer();
-    let n = io::read_full(0, &mut text);
+// Reads until the buffer is full, the input ends or a read fails, and answers how many bytes it has of the input.
+fn read_full(from: &mut impl Read, buf: &mut [u8]) -> usize
+    ensures { IsPrefixLen result buf.new }
+{
+    let mut done = 0;
+    while done < buf.len() {
+        match from.read(&mut buf[done..]) {
+            Ok(0) => return done,
+            Ok(n) => done += n,
+            Err(_) => return done,
+        }
+    }
+    done
+}
+
+// Runs the cases of the text on standard input. A text that fills the buffer is a slip.
+fn main(rt: HostRuntime) {
+    let mut text = [0u8; LONGEST_TEXT];
+    let n = read_full(&mut rt.stdin(), &mut text);
     if n < text.len() {
-        run(&text[..n]);
+        run(&rt, &text[..n]);
     } else {
-        slip();
+        slip(&rt);
     }
 }

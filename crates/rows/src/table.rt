@@ -17,19 +17,19 @@ pub(crate) fn spoil(table: &mut [u32; LONGEST]) {
 }
 
 // Prints the table's entries from `from` to just below `end`.
-pub(crate) fn show(table: &[u32; LONGEST], from: usize, end: usize) {
+pub(crate) fn show(rt: &impl Print, table: &[u32; LONGEST], from: usize, end: usize) {
     let mut i = from;
     while i < end {
         if LONGEST <= i {
             return;
         }
-        number(long(table[i]));
+        number(rt, long(table[i]));
         i += 1;
     }
 }
 
 // Prints how many of the first `size` entries are the garbage that stood there, and how many are 0.
-pub(crate) fn tally(table: &[u32; LONGEST], size: usize) {
+pub(crate) fn tally(rt: &impl Print, table: &[u32; LONGEST], size: usize) {
     let mut kept: u64 = 0;
     let mut zeros: u64 = 0;
     let mut i = 0;
@@ -47,8 +47,8 @@ pub(crate) fn tally(table: &[u32; LONGEST], size: usize) {
         }
         i += 1;
     }
-    word(b" kept");
-    number(kept);
-    word(b" zeros");
-    number(zeros);
+    word(rt, b" kept");
+    number(rt, kept);
+    word(rt, b" zeros");
+    number(rt, zeros);
 }

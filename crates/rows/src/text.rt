@@ -48,27 +48,27 @@ pub(crate) fn fresh() -> Line {
 }
 
 // The first byte of a line.
-fn begin(b: u8) -> Line {
+fn begin(rt: &impl Print, b: u8) -> Line {
     match b {
         b'#' => begun(b, COMMENT),
         b'=' | b' ' => begun(b, BYTES),
         b'*' | b'>' | b'$' | b'^' | b'%' | b'&' => begun(b, NUMBER),
         b'?' | b'!' | b'.' | b'+' => begun(b, LABEL),
         _ => {
-            slip();
+            slip(rt);
             begun(b, COMMENT)
         }
     }
 }
 
 // A byte of a label, or the space behind it.
-fn label(l: Line, b: u8) -> Line {
+fn label(rt: &impl Print, l: Line, b: u8) -> Line {
     let mut m = l;
     if b == b' ' {
         m.part = NUMBER;
         return m;
     }
-    letter(b);
+    letter(rt, b);
     m
 }
 
@@ -82,23 +82,23 @@ fn digit(b: u8) -> u8 {
 }
 
 // A number with one digit more.
-fn longer(x: u64, b: u8) -> u64 {
+fn longer(rt: &impl Print, x: u64, b: u8) -> u64 {
     let d = digit(b);
     if d < 10 {
         if x < 1844674407370955161 {
             return x * 10 + d as u64;
         }
     }
-    slip();
+    slip(rt);
     x
 }
 
 // A digit of a number, or the space behind it, after which a case's line has bytes and any other another number.
-fn count(l: Line, b: u8) -> Line {
+fn count(rt: &impl Print, l: Line, b: u8) -> Line {
     let mut m = l;
     let c = l.command;
     if b != b' ' {
-        m.last = longer(l.last, b);
+        m.last = longer(rt, l.last, b);
         return m;
     }
     m.first = l.last;
@@ -113,23 +113,23 @@ fn count(l: Line, b: u8) -> Line {
 }
 
 // The value of a hexadecimal digit. Any other byte is a slip.
-fn hexadecimal(b: u8) -> u8 {
+fn hexadecimal(rt: &impl Print, b: u8) -> u8 {
     let d = digit(b);
     if d == NONE {
-        slip();
+        slip(rt);
     }
     d
 }
 
 // A hexadecimal digit, or a space between two bytes.
-fn half(l: Line, b: u8, hex: &mut [u8; ROOM]) -> Line {
+fn half(rt: &impl Print, l: Line, b: u8, hex: &mut [u8; ROOM]) -> Line {
     let mut m = l;
     let waiting = l.half;
     let n = l.bytes;
     if b == b' ' {
         return m;
     }
-    let d = hexadecimal(b);
+    let d = hexadecimal(rt, b);
     if waiting == NONE {
         m.half = d;
         return m;
@@ -140,25 +140,25 @@ fn half(l: Line, b: u8, hex: &mut [u8; ROOM]) -> Line {
         m.bytes = n + 1;
         return m;
     }
-    slip();
+    slip(rt);
     m
 }
 
 // A byte of a line; the bytes that stand in the line are gathered in `hex`.
-pub(crate) fn read(l: Line, b: u8, hex: &mut [u8; ROOM]) -> Line {
+pub(crate) fn read(rt: &impl Print, l: Line, b: u8, hex: &mut [u8; ROOM]) -> Line {
     let part = l.part;
     match part {
-        COMMAND => begin(b),
-        LABEL => label(l, b),
-        NUMBER => count(l, b),
-        BYTES => half(l, b, hex),
+        COMMAND => begin(rt, b),
+        LABEL => label(rt, l, b),
+        NUMBER => count(rt, l, b),
+        BYTES => half(rt, l, b, hex),
         _ => l,
     }
 }
 
 // A digit that waits at the end of a line is a slip.
-pub(crate) fn ended(l: Line) {
+pub(crate) fn ended(rt: &impl Print, l: Line) {
     if l.half != NONE {
-        slip();
+        slip(rt);
     }
 }

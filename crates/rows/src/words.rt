@@ -1,4 +1,4 @@
-// Words and numbers on standard output.
+// Words and numbers on standard output. Where a write fails, what it was to write is missing there, and nothing more is done about it.
 
 // A number of 32 bits as one of 64.
 pub(crate) fn long(x: u32) -> u64 {
@@ -6,23 +6,22 @@ pub(crate) fn long(x: u32) -> u64 {
 }
 
 // A word as it stands.
-pub(crate) fn word(text: &[u8]) {
-    io::write_all(1, text);
+pub(crate) fn word(rt: &impl Print, text: &[u8]) {
+    let _ = rt.write_all(text);
 }
 
 // A byte of a label.
-pub(crate) fn letter(b: u8) {
+pub(crate) fn letter(rt: &impl Print, b: u8) {
     let text = [b];
-    word(&text);
+    word(rt, &text);
 }
 
 // A space, and a number in decimal.
-pub(crate) fn number(x: u64) {
-    word(b" ");
-    io::print_decimal(1, x);
+pub(crate) fn number(rt: &impl Print, x: u64) {
+    let _ = print!(rt; " {x}");
 }
 
 // What is printed where the text of the cases has a slip. No expected line has this word.
-pub(crate) fn slip() {
-    word(b" slip\n");
+pub(crate) fn slip(rt: &impl Print) {
+    word(rt, b" slip\n");
 }
