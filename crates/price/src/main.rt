@@ -74,14 +74,14 @@ fn price_file(rt: &impl Files, output: &impl Print, errors: &impl Print, name: &
 fn asks_usage(arg: &[u8]) -> bool
     ensures { (result ≡ true → arg.now ≡ ascii "--help") × (arg.now ≡ ascii "--help" → result ≡ true) }
 {
-    arg == b"--help"
+    arg == b"--help".as_slice()
 }
 
 // Is this the argument that asks for the version (S10.11)?
 fn asks_version(arg: &[u8]) -> bool
     ensures { (result ≡ true → arg.now ≡ ascii "--version") × (arg.now ≡ ascii "--version" → result ≡ true) }
 {
-    arg == b"--version"
+    arg == b"--version".as_slice()
 }
 
 // Was the program started with an argument of this number? The program's own name has number 0.
