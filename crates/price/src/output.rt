@@ -14,11 +14,11 @@ fn reason(errors: &impl Print, error: &io::Error) {
     let _ = write!(text, "{error}");
     let bytes = text.into_inner();
     let text = str::from_utf8(&bytes).unwrap_or("");
-    let words = match text.split_once(" (os error ") {
-        Some((words, _)) => words,
+    let why = match text.split_once(" (os error ") {
+        Some((why, _)) => why,
         None => text.trim_end_matches('\0'),
     };
-    let _ = errors.write_all(words.as_bytes());
+    let _ = errors.write_all(why.as_bytes());
 }
 
 // Says on standard error what failed and why (S10.6).
