@@ -9,7 +9,7 @@ use lib.Dec.{eqb}
 use borrow.Author.Tests.{eqb-true, eqb-false}
 use lib.ListN.{length, set, take, drop, length-append, length-set, length-drop, length-take}
 use lib.Seq.{take-add, take-append-add, drop-append_seam, drop-drop, get_or-set_same, get_or-set_other}
-use Rattle.model.specs.Problem.{Action, Form, Node, terminal, decision, Problem, problem, Cell, cell, states, node_at}
+use Rattle.model.specs.Problem.{Action, Form, Node, terminal, decision, Problem, Cell, cell, states, node_at}
 use Rattle.model.specs.Problem.{action_at, cell_of}
 use Rattle.model.specs.Format.{action_bytes, actions_bytes, form_bytes, node_bytes, nodes_bytes, head_bytes, write, action_size}
 use Rattle.model.specs.Format.{decision_size, action_place, node_place, offset, actions_of, form_of, action_offset}

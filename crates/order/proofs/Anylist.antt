@@ -1,8 +1,8 @@
 -- The inverse with any list that has every stage number: what it makes of an accepted sheet gets a yes to every question that the
 -- rearranger puts.
-use Prim.Native.Nat.{ℕ, zero, suc, ◌+◌, ◌<◌, ◌≤◌}
+use Prim.Native.Nat.{ℕ, ◌+◌, ◌<◌, ◌≤◌}
 use mathlib.Core.Path.{◌≡◌, refl, sym, ap, ◌∙◌, subst}
-use mathlib.Core.Bool.{Bool, true, false}
+use mathlib.Core.Bool.{true}
 use mathlib.Core.Logic.{◌⊎◌, inl, inr, ◌≢◌}
 use mathlib.Core.List.{List, [], ◌∷◌, map}
 use native.Mathlib.Omega.{arith}
@@ -13,7 +13,7 @@ use Rattle.model.proofs.QuestionLaws.{AllYes, none-no, all_yes}
 use Rattle.model.proofs.TestLaws.{all_true, every_true, true-every, never}
 use Rattle.model.specs.Format.{Bytes, draft_tag}
 use Rattle.model.specs.Limits.{max_states}
-use Rattle.model.specs.Problem.{Action, action, Node, terminal, decision, Problem, states, node_at, action_at, ◌∈◌, here, there}
+use Rattle.model.specs.Problem.{action, Node, terminal, decision, Problem, states, node_at, action_at, ◌∈◌, here, there}
 use Rattle.model.specs.Questions.{apart, ascending, successors_in_order, question2, question3, question5, question6, question6_draft}
 use Rattle.model.specs.Questions.{question10, question}
 use Rattle.model.specs.Read.{problem_of, cells_of}

@@ -1,22 +1,22 @@
 -- Every stage is placed exactly when findings lead in no circle.
 use Prim.Native.Nat.{ℕ, zero, suc, ◌+◌, ◌<◌, ◌≤◌}
-use mathlib.Core.Path.{◌≡◌, refl, sym, ap, ◌∙◌}
+use mathlib.Core.Path.{◌≡◌, refl, ap}
 use mathlib.Core.Bool.{Bool, true, false, not}
-use mathlib.Core.Logic.{◌⊎◌, inl, inr, ◌≢◌, ◌↔◌}
+use mathlib.Core.Logic.{◌⊎◌, inl, inr, ◌↔◌}
 use mathlib.Core.List.{List, [], ◌∷◌, ◌++◌}
 use native.Mathlib.Omega.{arith}
-use lib.ListN.{length, get_or, length-append, get_or-eq_default}
+use lib.ListN.{length, length-append, get_or-eq_default}
 use lib.Dec.{eqb, ltb}
-use borrow.Author.Tests.{eqb-true, ltb-true, ltb-false, not-true, not-false}
-use Rattle.model.proofs.TestLaws.{also-true, every_true, never}
+use borrow.Author.Tests.{eqb-true, ltb-false, not-false}
+use Rattle.model.proofs.TestLaws.{never}
 use Rattle.model.specs.Problem.{terminal, Problem, states, node_at}
 use Rattle.model.specs.Tests.{fork, also, every}
-use Rattle.theory.proofs.Basics.{lt-or-le, same_or_not, clash}
-use Rattle.order.proofs.Counting.{among-times, not-among, some-twice, at-times, too_few}
+use Rattle.theory.proofs.Basics.{lt-or-le, clash}
+use Rattle.order.proofs.Counting.{among-times, not-among, some-twice, too_few}
 use Rattle.order.proofs.Placing.{lowest-first, Placed, order-placed, order-most, all_placed}
 use Rattle.order.specs.Claims.{Chain, step, onward, Circle}
 use Rattle.order.specs.Moved.{at}
-use Rattle.order.specs.Order.{among, points_to, leaves, free, lowest, next, placing, order, place_of, lists}
+use Rattle.order.specs.Order.{among, points_to, leaves, free, next, placing, order, place_of, lists}
 use Rattle.order.specs.Times.{times, one}
 
 -- who points is a stage

@@ -1,6 +1,6 @@
 -- The order is the one that S13.2 describes, and no other list is.
-use Prim.Native.Nat.{ℕ, zero, suc, ◌+◌, ◌<◌, ◌≤◌}
-use mathlib.Core.Path.{◌≡◌, refl, sym, ap, ◌∙◌, subst}
+use Prim.Native.Nat.{ℕ, zero, suc, ◌<◌, ◌≤◌}
+use mathlib.Core.Path.{◌≡◌, refl, sym, ◌∙◌, subst}
 use mathlib.Core.Bool.{Bool, true, false, not}
 use mathlib.Core.Logic.{◌⊎◌, inl, inr}
 use mathlib.Core.List.{List, [], ◌∷◌, ◌++◌}
@@ -10,8 +10,8 @@ use lib.Dec.{ltb}
 use lib.ListN.{length, take, length-append, get_or-append}
 use lib.Seq.{take_at, take_all, take-suc, take-append-le, get_or_at}
 use Rattle.model.proofs.TestLaws.{also-true, true-also, true-every}
-use Rattle.model.specs.Tests.{fork, also, every}
-use Rattle.model.specs.Problem.{Problem, states, node_at, ◌∈◌}
+use Rattle.model.specs.Tests.{fork}
+use Rattle.model.specs.Problem.{Problem, states, node_at}
 use Rattle.theory.proofs.Basics.{lt-or-le, clash}
 use Rattle.order.proofs.Circles.{pointing-state, placing-ends}
 use Rattle.order.proofs.Counting.{times-among}
@@ -19,7 +19,7 @@ use Rattle.order.proofs.Placing.{lowest-passes, lowest-first, free-pointed, orde
 use Rattle.order.proofs.Pointing.{among_in, in-among}
 use Rattle.order.specs.Claims.{MayFollow, IsOrder}
 use Rattle.order.specs.Moved.{at}
-use Rattle.order.specs.Order.{among, points_to, leaves, free, lowest, next, placing, order}
+use Rattle.order.specs.Order.{among, points_to, leaves, free, next, placing, order}
 
 -- The test whether a stage may be placed, in words.
 module _ (p : Problem) (placed : List ℕ) (t : ℕ) where

@@ -1,14 +1,14 @@
 -- What placing keeps: no number twice, and every finding behind its junction. So an order of all stages is a renumbering.
 use Prim.Native.Nat.{ℕ, zero, suc, ◌+◌, ◌<◌, ◌≤◌}
-use mathlib.Core.Path.{◌≡◌, refl, sym, ap, ◌∙◌}
+use mathlib.Core.Path.{◌≡◌, refl, ◌∙◌}
 use mathlib.Core.Bool.{Bool, true, false, not}
 use mathlib.Core.Logic.{◌⊎◌, inl, inr, ◌≢◌}
 use mathlib.Core.List.{List, [], ◌∷◌, ◌++◌}
 use native.Mathlib.Omega.{arith}
-use lib.ListN.{length, get_or, length-append, get_or-append}
+use lib.ListN.{length, length-append, get_or-append}
 use lib.Seq.{get_or_at}
-use lib.Dec.{eqb, ltb}
-use borrow.Author.Tests.{ltb-true, ltb-false, not-true}
+use lib.Dec.{ltb}
+use borrow.Author.Tests.{ltb-true, not-true}
 use Rattle.model.proofs.TestLaws.{also-true, every_true}
 use Rattle.model.specs.Problem.{Problem, states, node_at}
 use Rattle.model.specs.Tests.{fork}

@@ -1,11 +1,11 @@
 -- Plans of a problem and of the same problem renumbered, which choose the same checks: what they reach, and where they are complete. So
 -- least costs and plans go over from one to the other.
-use Prim.Native.Nat.{ℕ, ◌<◌, ◌≤◌}
+use Prim.Native.Nat.{ℕ, ◌<◌}
 use mathlib.Core.Path.{◌≡◌, refl, sym, ap, ◌∙◌, subst}
 use mathlib.Core.Bool.{Bool, true, false}
 use mathlib.Core.Logic.{◌↔◌}
-use mathlib.Core.Option.{Option, some}
-use mathlib.Core.List.{List, [], ◌∷◌, map}
+use mathlib.Core.Option.{some}
+use mathlib.Core.List.{List, [], map}
 use native.Mathlib.Omega.{arith}
 use borrow.Author.Tests.{ltb-true, ltb-false}
 use lib.Dec.{ltb}
@@ -20,7 +20,7 @@ use Rattle.order.proofs.Back.{flip, problem-back}
 use Rattle.order.proofs.Costs.{get_d_map, moved-states, moved-node, keeps-optimal-old, keeps-plan-cost}
 use Rattle.order.proofs.Sorting.{in-sorted}
 use Rattle.order.specs.Claims.{Perm, SameChoices, SameCosts}
-use Rattle.order.specs.Moved.{sorted, at, moved_action, moved_node, moved}
+use Rattle.order.specs.Moved.{at, moved_action, moved_node, moved}
 
 -- a finding of a check is one of the renumbered check's, under its new number
 in_moved : (to : List ℕ) (acts : List Action) (i u : ℕ) → u ∈ (action_at acts i).successors →

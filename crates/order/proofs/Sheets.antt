@@ -1,5 +1,5 @@
 -- Bytes: an accepted draft becomes an accepted sheet of the same length, and comes back exactly.
-use Prim.Native.Nat.{ℕ, ◌+◌, ◌-◌, ◌<◌, ◌≤◌}
+use Prim.Native.Nat.{ℕ, ◌-◌, ◌<◌, ◌≤◌}
 use mathlib.Core.Path.{◌≡◌, refl, sym, ap, ◌∙◌}
 use mathlib.Core.Bool.{true}
 use mathlib.Core.List.{List, ◌∷◌, ◌++◌}
@@ -8,14 +8,14 @@ use borrow.Author.Tests.{eqb-true, leb-true, le-leb}
 use lib.ListN.{length, take, drop, replicate, length-append, length-replicate}
 use lib.Seq.{take_at}
 use Rattle.model.proofs.QuestionLaws.{AllYes, none-no, all_yes}
-use Rattle.model.proofs.TestLaws.{all_true, true-all, every_true, true-every}
+use Rattle.model.proofs.TestLaws.{all_true, true-all, true-every}
 use Rattle.model.specs.Calls.{Call, Calls}
 use Rattle.model.specs.Demands.{Accepted, Demand3}
 use Rattle.model.specs.Format.{Bytes, head_tag, draft_tag, write}
 use Rattle.model.specs.Limits.{max_states}
 use Rattle.model.specs.Problem.{Problem, Cell, states}
 use Rattle.model.specs.Questions.{question2, question3, question4, question10, question5, question6, question6_draft, question7, question8}
-use Rattle.model.specs.Questions.{question, accepted}
+use Rattle.model.specs.Questions.{question}
 use Rattle.model.specs.Read.{problem_of, cells_of}
 use Rattle.model.specs.Report.{on_refusal}
 use Rattle.layout.proofs.Back.{problem-back as written-problem, cells-back as written-cells}
@@ -23,7 +23,6 @@ use Rattle.layout.proofs.Same.{read-writes, read_head, read-shaped}
 use Rattle.layout.proofs.Shapes.{draft-inside, six-inside}
 use Rattle.layout.specs.Shape.{Shaped, Inside}
 use Rattle.theory.proofs.Demands.{demand3}
-use Rattle.theory.proofs.LimitLaws.{SheetYes}
 use Rattle.theory.proofs.Sheets.{Stands, stands-yes, stands-accepted}
 use Rattle.theory.specs.Asked.{Asked}
 use Rattle.order.proofs.Back.{problem-back, cells-back}

@@ -1,19 +1,18 @@
 -- A rearranged sheet has as many bytes as the sheet.
 use Prim.Native.Nat.{ℕ, zero, suc, ◌+◌, ◌*◌, ◌<◌, ◌≤◌}
 use mathlib.Core.Path.{◌≡◌, refl, sym, ap, ◌∙◌}
-use mathlib.Core.Bool.{Bool, true, false}
 use mathlib.Core.Logic.{◌⊎◌, inl, inr, ◌≢◌}
 use mathlib.Core.List.{List, [], ◌∷◌, map}
 use native.Mathlib.Omega.{arith}
 use native.Mathlib.Nat.{add-mul}
 use lib.Dec.{eqb}
-use lib.ListN.{length, get_or, length-map, length-append}
+use lib.ListN.{length, get_or, length-append}
 use Rattle.model.specs.Format.{nodes_bytes, write, actions_size, node_size, node_place}
 use Rattle.model.specs.Optimal.{sum_below}
-use Rattle.model.specs.Problem.{Action, Node, terminal, decision, Problem, Cell, cell, states, node_at}
+use Rattle.model.specs.Problem.{Action, Node, terminal, decision, Problem, Cell, states, node_at}
 use Rattle.layout.proofs.Places.{node-length}
-use Rattle.theory.proofs.Basics.{lt-or-le, same_or_not}
-use Rattle.order.proofs.Counting.{one_same, one-other, at-times, sum-add, perm-once}
+use Rattle.theory.proofs.Basics.{same_or_not}
+use Rattle.order.proofs.Counting.{one_same, one-other, sum-add, perm-once}
 use Rattle.order.proofs.Shaped.{moved_length}
 use Rattle.order.specs.Claims.{Perm}
 use Rattle.order.specs.Moved.{at, moved_action, moved_node, moved}

@@ -1,7 +1,7 @@
 -- The worked examples of drafts (S11.52 to S11.65), in one table. `proofs/RowsHold.antt` has one proof across it.
 use Rattle.std.specs.Prelude.{ℕ, ◌≡◌, List, [], ◌∷◌, ◌++◌, length, get_or, take, drop, replicate}
 use Prim.Native.String.{String}
-use Rattle.model.specs.Problem.{Kind, worst, whole, Action, action, plain, counted, Node, terminal, decision, Problem, problem, Cell, cell}
+use Rattle.model.specs.Problem.{Kind, worst, whole, action, plain, counted, Node, terminal, decision, Problem, problem, Cell, cell}
 use Rattle.model.specs.Format.{draft_tag, write}
 use Rattle.model.specs.Read.{problem_of}
 use Rattle.model.specs.Questions.{refusal}
