@@ -1,5 +1,5 @@
 -- S13.2 to S13.4: the order in which a draft's stages are placed. Next is the lowest old number to which no unplaced junction points.
-use Rattle.std.specs.Prelude.{ℕ, zero, suc, Bool, true, false, not, List, [], ◌∷◌, ◌++◌, map, length, eqb, ltb}
+use Rattle.std.specs.Prelude.{ℕ, zero, suc, ◌+◌, Bool, true, false, not, List, [], ◌∷◌, ◌++◌, map, length, get_or, take, eqb, leb, ltb}
 use Rattle.model.specs.Tests.{fork, also, every}
 use Rattle.model.specs.Problem.{Action, Node, terminal, decision, Problem, states, node_at}
 
