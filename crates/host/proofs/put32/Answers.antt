@@ -1,3 +1,4 @@
+-- Four bytes are stored one after the other.
 use native.Mathlib.Omega.{arith}
 use lib.ListN.{length-set}
 use Rattle.host.proofs.Bytes.{stored}

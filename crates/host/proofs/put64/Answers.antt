@@ -1,3 +1,4 @@
+-- The low half is put first, the high half behind it.
 use Prim.Native.Nat.{◌/◌, ◌%◌}
 use native.Mathlib.Omega.{arith}
 use Rattle.host.specs.Host.{le32}

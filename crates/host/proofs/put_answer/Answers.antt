@@ -1,3 +1,4 @@
+-- Price, passes and raises are put one behind the other.
 use Rattle.host.proofs.Bytes.{three-put}
 use Rattle.host.proofs.put_answer.Goals as goal
 

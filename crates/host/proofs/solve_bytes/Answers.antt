@@ -1,3 +1,4 @@
+-- The table that serves the sheet.
 use Rattle.host.proofs.Hosted.{serves-few, serves-all}
 use Rattle.host.proofs.solve_bytes.Goals as goal
 

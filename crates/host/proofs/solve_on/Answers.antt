@@ -1,3 +1,4 @@
+-- The work, and then the host's table.
 use mathlib.Core.Path.{◌≡◌}
 use native.Mathlib.Omega.{arith}
 use lib.ListN.{length}

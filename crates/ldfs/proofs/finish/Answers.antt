@@ -1,3 +1,4 @@
+-- The work of the call, and then the start's value and mark.
 use mathlib.Core.Path.{◌≡◌, ◌∙◌}
 use native.Mathlib.Omega.{arith}
 use Rattle.model.specs.Read.{problem_of}
@@ -14,7 +15,9 @@ start-at c = c.word_to_index-start.ensures.0 ∙ c.get16.ensures.0 ∙ start_is 
 -- it is a state of what the work left
 left_at : (c : After-work-w) → Within c.work-w.new.sheet c.args.table.now c.word_to_index-start.result
 left_at c =
-    let start-at : c.word_to_index-start.result ≡ (problem_of c.args.sheet.now).start = (c.word_to_index-start.ensures.0 ∙ c.get16.ensures.0 ∙ start_is c.args.sheet.now) in within c.work-w.ensures.sheet _ (rw (start-at) c.requires.within.below)
+    let start-at : c.word_to_index-start.result ≡ (problem_of c.args.sheet.now).start =
+        (c.word_to_index-start.ensures.0 ∙ c.get16.ensures.0 ∙ start_is c.args.sheet.now) in
+        within c.work-w.ensures.sheet _ (rw (start-at) c.requires.within.below)
 
 pub get16-requires : goal.get16-requires
 get16-requires c = omega (arith, head-room c.requires.within)

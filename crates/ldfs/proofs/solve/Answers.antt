@@ -1,3 +1,4 @@
+-- The table is cleared, and `solve_zeroed` does the rest.
 use native.Mathlib.Omega.{arith}
 use Rattle.ldfs.proofs.Solving.{refused-short, all-from-zeros}
 use Rattle.ldfs.proofs.solve.Goals as goal

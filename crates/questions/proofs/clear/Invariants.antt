@@ -1,3 +1,4 @@
+-- The loop's invariant: up to `from` the table is as it was, and from there to i it has zeros.
 use Prim.Native.Nat.{◌-◌, ◌≤◌, max}
 use mathlib.Core.Path.{◌≡◌}
 use mathlib.Core.List.{◌++◌}

@@ -49,7 +49,8 @@ get16-requires c = omega arith
 pub read_fields-f-requires : goal.read_fields-f-requires
 read_fields-f-requires c =
     let h = head-says c.args.sheet.now (headed (goal.at.read_fields-f-requires c).Then-head_in_place) in
-    (omega (arith, counted (goal.at.read_fields-f-requires c).After-word_to_index-n, h.5, c.requires.0), omega arith, c.if-sheet-gt-MAX_BYTES.false)
+    (omega (arith, counted (goal.at.read_fields-f-requires c).After-word_to_index-n, h.5, c.requires.0), omega arith,
+        c.if-sheet-gt-MAX_BYTES.false)
 
 pub returns-then-f-2 : goal.returns-then-f-2
 returns-then-f-2 c =
@@ -67,7 +68,8 @@ returns-else-f-2 c = record {
 pub returns-else-f : goal.returns-else-f
 returns-else-f c =
     let bad = sym c.read_fields-f.ensures.in_place_value ∙ c.if-f.false in record {
-      value = no-4 _ _ _ c.if-sheet-lt-MIN_BYTES.false c.if-sheet-gt-MAX_BYTES.false (headed (goal.at.returns-else-f c).Then-head_in_place) _ (counted (goal.at.returns-else-f c).After-word_to_index-n) bad;
+      value = no-4 _ _ _ c.if-sheet-lt-MIN_BYTES.false c.if-sheet-gt-MAX_BYTES.false
+          (headed (goal.at.returns-else-f c).Then-head_in_place) _ (counted (goal.at.returns-else-f c).After-word_to_index-n) bad;
       table_after = λ z. absurd (omega arith);
     }
 

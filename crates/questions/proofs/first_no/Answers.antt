@@ -9,7 +9,9 @@ use Rattle.questions.proofs.first_no.Goals.{Then-no-eq0}
 in_place : (c : Then-no-eq0) → Fielded c.args.sheet.now c.fields_no-no.new.table
 in_place c =
     let bytes : Bytes c.args.sheet.now = (λ i. (c.type_inv.sheet i).fits) in
-    let is = c.fields_no-no.ensures.value in let table = c.fields_no-no.ensures.table_after in fielded head_tag _ _ _ _ c.requires.1 (bytes) (sym is ∙ c.if-no-eq0.true) (table c.if-no-eq0.true)
+    let is = c.fields_no-no.ensures.value in
+    let table = c.fields_no-no.ensures.table_after in
+    fielded head_tag _ _ _ _ c.requires.1 (bytes) (sym is ∙ c.if-no-eq0.true) (table c.if-no-eq0.true)
 
 pub count_of-n-requires : goal.count_of-n-requires
 count_of-n-requires c = (in_place c).long
@@ -23,7 +25,8 @@ states_no-requires c =
 
 pub returns-then-no-eq0 : goal.returns-then-no-eq0
 returns-then-no-eq0 c =
-    let is = c.fields_no-no.ensures.value in let table = c.fields_no-no.ensures.table_after in record {
+    let is = c.fields_no-no.ensures.value in
+    let table = c.fields_no-no.ensures.table_after in record {
       value = c.states_no.ensures ∙ sym (then-more _ _ refl _ is c.if-no-eq0.true);
       table_after = λ _. table c.if-no-eq0.true;
     }

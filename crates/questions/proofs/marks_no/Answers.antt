@@ -17,7 +17,9 @@ eight c b e = eight-from _ _ _ c.requires.n_value _ b c.all_pass-then-all_pass.e
 
 pub all_pass-requires : goal.all_pass-requires
 all_pass-requires c =
-    let place = c.requires.n_nonzero in let count = c.requires.n_value in let (inside, five) = c.requires.inside in record {
+    let place = c.requires.n_nonzero in
+    let count = c.requires.n_value in
+    let (inside, five) = c.requires.inside in record {
       n_nonzero = place;
       n_value = count;
       before = inside;
@@ -25,7 +27,9 @@ all_pass-requires c =
 
 pub all_pass-requires-then-all_pass : goal.all_pass-requires-then-all_pass
 all_pass-requires-then-all_pass c =
-    let place = c.requires.n_nonzero in let count = c.requires.n_value in let (inside, five) = c.requires.inside in record {
+    let place = c.requires.n_nonzero in
+    let count = c.requires.n_value in
+    let (inside, five) = c.requires.inside in record {
       n_nonzero = place;
       n_value = count;
       before = (five, inside);
@@ -33,11 +37,13 @@ all_pass-requires-then-all_pass c =
 
 pub returns-then-all_pass-2 : goal.returns-then-all_pass-2
 returns-then-all_pass-2 c =
-    marks-yes _ _ (seven (goal.at.returns-then-all_pass-2 c).After-all_pass true c.if-all_pass.true) (eight (goal.at.returns-then-all_pass-2 c).After-all_pass-then-all_pass true c.if-all_pass-2.true)
+    marks-yes _ _ (seven (goal.at.returns-then-all_pass-2 c).After-all_pass true c.if-all_pass.true)
+        (eight (goal.at.returns-then-all_pass-2 c).After-all_pass-then-all_pass true c.if-all_pass-2.true)
 
 pub returns-else-all_pass-2 : goal.returns-else-all_pass-2
 returns-else-all_pass-2 c =
-    no-8 _ _ (seven (goal.at.returns-else-all_pass-2 c).After-all_pass true c.if-all_pass.true) (eight (goal.at.returns-else-all_pass-2 c).After-all_pass-then-all_pass false c.if-all_pass-2.false)
+    no-8 _ _ (seven (goal.at.returns-else-all_pass-2 c).After-all_pass true c.if-all_pass.true)
+        (eight (goal.at.returns-else-all_pass-2 c).After-all_pass-then-all_pass false c.if-all_pass-2.false)
 
 pub returns-else-all_pass : goal.returns-else-all_pass
 returns-else-all_pass c = no-7 _ _ (seven (goal.at.returns-else-all_pass c).After-all_pass false c.if-all_pass.false)

@@ -27,7 +27,8 @@ findings_no-no-requires c = record {
 
 pub places-requires : goal.places-requires
 places-requires c = record {
-  n_in_bounds = (c.requires.n_in_bounds.0, c.requires.n_in_bounds.1, omega (arith, c.requires.ready.count, c.requires.ready.within.sheet.shaped.most));
+  n_in_bounds = (c.requires.n_in_bounds.0, c.requires.n_in_bounds.1, omega (arith, c.requires.ready.count,
+      c.requires.ready.within.sheet.shaped.most));
   by_index = c.requires.n_in_bounds.2;
 }
 
@@ -41,7 +42,10 @@ marks_no-requires c = record {
 pub returns-then-places : goal.returns-then-places
 unfolding findings_by
 returns-then-places c =
-    let is = c.places.ensures.value in let back = c.places.ensures.after in let same = c.places.ensures.len_unchanged in let eleven = listed_by _ _ _ c.requires.ready.count _ true is c.if-places.true in
+    let is = c.places.ensures.value in
+    let back = c.places.ensures.after in
+    let same = c.places.ensures.len_unchanged in
+    let eleven = listed_by _ _ _ c.requires.ready.count _ true is c.if-places.true in
     let numbers = back c.if-places.true in record {
       value = c.marks_no.ensures ∙ turn-marks _ _ _ _ _ c.findings_no-no.ensures c.if-no-eq0.true eleven;
       inside = λ _. (

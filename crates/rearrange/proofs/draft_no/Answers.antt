@@ -19,7 +19,8 @@ yes-5 c = (yes-5-6 _ _ _ (sym c.findings_no-no.ensures ∙ c.if-no-eq0.true)).0
 inside : (c : Then-no-eq0) → Inside (problem_of c.args.sheet.now)
 unfolding findings_by
 inside c =
-    let yes-6 : question6_draft (problem_of c.args.sheet.now) ≡ true = ((yes-5-6 _ _ _ (sym c.findings_no-no.ensures ∙ c.if-no-eq0.true)).1) in draft-inside _ (yes-6)
+    let yes-6 : question6_draft (problem_of c.args.sheet.now) ≡ true =
+        ((yes-5-6 _ _ _ (sym c.findings_no-no.ensures ∙ c.if-no-eq0.true)).1) in draft-inside _ (yes-6)
 
 -- n fits two bytes
 few : (c : Start) → c.args.n < 65536
@@ -41,9 +42,11 @@ count_all-requires c = record {
 
 pub place_all-placed-requires : goal.place_all-placed-requires
 place_all-placed-requires c =
-    let waits = c.count_all.ensures.by_index_2 in let same = c.count_all.ensures.waits_len_unchanged in record {
+    let waits = c.count_all.ensures.by_index_2 in
+    let same = c.count_all.ensures.waits_len_unchanged in record {
       n_nonzero = (c.requires.ready.some, c.requires.ready.within);
-      n_value = (c.requires.ready.count, omega (arith, same, c.requires.n_in_bounds.0), c.requires.n_in_bounds.1, few (goal.at.place_all-placed-requires c).Start);
+      n_value = (c.requires.ready.count, omega (arith, same, c.requires.n_in_bounds.0), c.requires.n_in_bounds.1,
+          few (goal.at.place_all-placed-requires c).Start);
       inside = inside (goal.at.place_all-placed-requires c).Then-no-eq0;
       by_index = waits;
     }
@@ -58,7 +61,10 @@ marks_no-requires c = record {
 pub returns-then-placed-n : goal.returns-then-placed-n
 unfolding findings_by
 returns-then-placed-n c =
-    let is = c.place_all-placed.ensures.value in let places = c.place_all-placed.ensures.after in let waits = c.place_all-placed.ensures.by_index_2 in let eleven = placed-all _ _ _ c.requires.ready.count is c.if-placed-n.true in record {
+    let is = c.place_all-placed.ensures.value in
+    let places = c.place_all-placed.ensures.after in
+    let waits = c.place_all-placed.ensures.by_index_2 in
+    let eleven = placed-all _ _ _ c.requires.ready.count is c.if-placed-n.true in record {
       value = c.marks_no.ensures ∙ turn-marks _ _ _ _ _ c.findings_no-no.ensures c.if-no-eq0.true eleven;
       placed = λ _. record {
         inside = inside (goal.at.returns-then-placed-n c).Then-no-eq0;

@@ -8,7 +8,8 @@ one_less-requires c =
 
 pub put_sheet-requires : goal.put_sheet-requires
 put_sheet-requires c =
-    let some = c.one_less.ensures.one_less in let none = c.one_less.ensures.by_index in record {
+    let some = c.one_less.ensures.one_less in
+    let none = c.one_less.ensures.by_index in record {
       ready = c.requires.ready;
       inside = (c.requires.placed.inside, new-renumbers c.requires.placed c.requires.ready.count some none);
       sheet_in_bounds = c.requires.sheet_in_bounds.0;
@@ -20,7 +21,9 @@ put_list-requires c =
 
 pub returns : goal.returns
 returns c =
-    let some = c.one_less.ensures.one_less in let none = c.one_less.ensures.by_index in let places = c.requires.placed.places in
+    let some = c.one_less.ensures.one_less in
+    let none = c.one_less.ensures.by_index in
+    let places = c.requires.placed.places in
     let s = c.args.sheet.now in
     let n = c.args.n in
     let old = c.args.old.now in record {

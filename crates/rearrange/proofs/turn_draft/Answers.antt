@@ -24,12 +24,17 @@ draft-eleven s = λ _. question11 (problem_of s)
 in_place : (c : Then-no-eq0) → Fielded c.args.sheet.now c.fields_no-no.new.table
 in_place c =
     let bytes : Bytes c.args.sheet.now = (λ i. (c.type_inv.sheet i).fits) in
-    let is = c.fields_no-no.ensures.value in let table = c.fields_no-no.ensures.table_after in fielded draft_tag _ _ _ _ (omega arith) (bytes) (sym is ∙ c.if-no-eq0.true) (table c.if-no-eq0.true)
+    let is = c.fields_no-no.ensures.value in
+    let table = c.fields_no-no.ensures.table_after in
+    fielded draft_tag _ _ _ _ (omega arith) (bytes) (sym is ∙ c.if-no-eq0.true) (table c.if-no-eq0.true)
 
 ready_of : (c : After-count_of-n) → Ready c.args.sheet.now c.fields_no-no.new.table c.count_of-n.result
 ready_of c =
     let bytes : Bytes c.args.sheet.now = (λ i. (c.type_inv.sheet i).fits) in
-    let in_place : Fielded c.args.sheet.now c.fields_no-no.new.table = (let is = c.fields_no-no.ensures.value in let table = c.fields_no-no.ensures.table_after in fielded draft_tag _ _ _ _ (omega arith) (bytes) (sym is ∙ c.if-no-eq0.true) (table c.if-no-eq0.true)) in ready-from _ (in_place) c.count_of-n.ensures.0
+    let in_place : Fielded c.args.sheet.now c.fields_no-no.new.table =
+        (let is = c.fields_no-no.ensures.value in let table = c.fields_no-no.ensures.table_after in
+        fielded draft_tag _ _ _ _ (omega arith) (bytes) (sym is ∙ c.if-no-eq0.true) (table c.if-no-eq0.true)) in
+        ready-from _ (in_place) c.count_of-n.ensures.0
 
 pub count_of-n-requires : goal.count_of-n-requires
 count_of-n-requires c =
@@ -52,7 +57,9 @@ put_draft-requires c =
 
 pub returns-then-rest-eq0 : goal.returns-then-rest-eq0
 returns-then-rest-eq0 c =
-    let is = c.fields_no-no.ensures.value in let table = c.fields_no-no.ensures.table_after in let none = c.if-no-eq0.true in
+    let is = c.fields_no-no.ensures.value in
+    let table = c.fields_no-no.ensures.table_after in
+    let none = c.if-no-eq0.true in
     let s = c.args.sheet.now in record {
       value = sym c.if-rest-eq0.true ∙ c.draft_no-rest.ensures.value ∙ then-turn draft_tag s (draft-six s) (draft-eleven s) _ is none;
       output_after = c.put_draft.ensures.output_after ∙ given-none (rearranged_bytes s) c.args.output.now;
@@ -63,7 +70,8 @@ returns-then-rest-eq0 c =
 pub returns-then-no-eq0 : goal.returns-then-no-eq0
 returns-then-no-eq0 c =
     let s = c.args.sheet.now in record {
-      value = c.draft_no-rest.ensures.value ∙ then-turn draft_tag s (draft-six s) (draft-eleven s) _ c.fields_no-no.ensures.value c.if-no-eq0.true;
+      value = c.draft_no-rest.ensures.value ∙ then-turn draft_tag s (draft-six s) (draft-eleven s) _ c.fields_no-no.ensures.value
+          c.if-no-eq0.true;
       output_after = given-some _ c.if-rest-eq0.false (rearranged_bytes s) c.args.output.now;
       list_after = list-some _ c.if-rest-eq0.false s c.args.list.now;
       table_after = λ z. absurd (c.if-rest-eq0.false z);

@@ -1,3 +1,4 @@
+-- The entries are read one after the other.
 use Prim.Native.Nat.{◌-◌}
 use lib.ListN.{length}
 use Rattle.host.proofs.Numbers.{Got}

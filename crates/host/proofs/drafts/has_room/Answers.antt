@@ -1,3 +1,4 @@
+-- The three tests, one after the other.
 use native.Mathlib.Omega.{arith}
 use Rattle.host.proofs.HostedDrafts.{table-too-short, output-too-short, list-too-short, all-long}
 use Rattle.host.proofs.drafts.has_room.Goals as goal

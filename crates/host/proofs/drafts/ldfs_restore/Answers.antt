@@ -1,3 +1,4 @@
+-- The work where there is room, and else the refusal.
 use mathlib.Core.Path.{sym, ◌∙◌}
 use Rattle.host.proofs.HostedDrafts.{restore-no-room}
 use Rattle.host.proofs.drafts.ldfs_restore.Goals as goal

@@ -1,3 +1,4 @@
+-- The tables of its own.
 use native.Mathlib.Omega.{arith}
 use Rattle.host.proofs.HostedDrafts.{lent-own}
 use Rattle.host.proofs.drafts.rearrange_bytes.Goals as goal

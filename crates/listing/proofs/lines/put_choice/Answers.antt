@@ -25,7 +25,8 @@ returns-then-is_terminal c = record {
 pub returns-else-is_terminal : goal.returns-else-is_terminal
 returns-else-is_terminal c =
     let number = c.word_to_long.ensures.0 ∙ c.byte_to_word.ensures.0 ∙ c.chosen_at.ensures in
-    let text = c.put_field.ensures.wrote in let end = c.put_field.ensures.upper_bound in record {
+    let text = c.put_field.ensures.wrote in
+    let end = c.put_field.ensures.upper_bound in record {
       wrote = wrote-check _ (decided (goal.at.returns-else-is_terminal c).Else-is_terminal) _ number text;
       upper_bound = omega (arith, end);
     }

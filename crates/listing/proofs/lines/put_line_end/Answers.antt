@@ -22,7 +22,8 @@ is_terminal-requires c =
 
 pub returns-then-is_terminal : goal.returns-then-is_terminal
 returns-then-is_terminal c =
-    let end = terminal-from (state-within c.requires.listable c.requires.state_bound) _ c.is_terminal.ensures c.if-is_terminal.true in record {
+    let end = terminal-from (state-within c.requires.listable c.requires.state_bound) _ c.is_terminal.ensures c.if-is_terminal.true in
+    record {
       wrote = wrote-newline end _ c.put_word.ensures;
       upper_bound = omega (arith, c.put_word.ensures.behind);
     }
@@ -35,13 +36,16 @@ chosen_action-action-requires c = record {
 
 pub price-x-requires : goal.price-x-requires
 price-x-requires c =
-    chosen-priced c.requires.listable (decided (goal.at.price-x-requires c).Else-is_terminal) c.requires.chooses _ c.chosen_action-action.ensures
+    chosen-priced c.requires.listable (decided (goal.at.price-x-requires c).Else-is_terminal) c.requires.chooses _
+        c.chosen_action-action.ensures
 
 pub returns : goal.returns
 returns c =
-    let found = chosen-successors c.requires.listable (decided (goal.at.returns c).Else-is_terminal) c.requires.chooses _ c.chosen_action-action.ensures in
+    let found = chosen-successors c.requires.listable (decided (goal.at.returns c).Else-is_terminal) c.requires.chooses _
+        c.chosen_action-action.ensures in
     let named = c.price-x.ensures.2 ∙ ap (dearest (value_of (cells_of c.args.sheet.now))) found in
-    let by-is = c.put_field-next.ensures.wrote in let by_end = c.put_field-next.ensures.upper_bound in record {
+    let by-is = c.put_field-next.ensures.wrote in
+    let by_end = c.put_field-next.ensures.upper_bound in record {
       wrote = wrote_by (decided (goal.at.returns c).Else-is_terminal) named (wrote-behind by-is c.put_word-2.ensures);
       upper_bound = omega (arith, by_end, c.put_word-2.ensures.behind);
     }

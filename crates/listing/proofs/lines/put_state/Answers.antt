@@ -32,7 +32,14 @@ put_line_end-requires c = record {
 pub returns : goal.returns
 returns c =
     let read = c.word_to_long.ensures.0 ∙ c.value_at.ensures in
-    let number_is = c.put_field-next.ensures.wrote in let number-end = c.put_field-next.ensures.upper_bound in let choice-is = c.put_choice-next.ensures.wrote in let choice-end = c.put_choice-next.ensures.upper_bound in let value-is = c.put_field-next-2.ensures.wrote in let value-end = c.put_field-next-2.ensures.upper_bound in let end_is = c.put_line_end.ensures.wrote in let end-end = c.put_line_end.ensures.upper_bound in record {
+    let number_is = c.put_field-next.ensures.wrote in
+    let number-end = c.put_field-next.ensures.upper_bound in
+    let choice-is = c.put_choice-next.ensures.wrote in
+    let choice-end = c.put_choice-next.ensures.upper_bound in
+    let value-is = c.put_field-next-2.ensures.wrote in
+    let value-end = c.put_field-next-2.ensures.upper_bound in
+    let end_is = c.put_line_end.ensures.wrote in
+    let end-end = c.put_line_end.ensures.upper_bound in record {
       wrote = rw (sym read) (wrote-behind number_is (wrote-behind choice-is (wrote-behind value-is end_is)));
       upper_bound = omega (arith, number-end, choice-end, value-end, end-end);
     }

@@ -1,3 +1,4 @@
+-- The loop's invariant: the flags of the successors before number j are up.
 use Prim.Native.Nat.{◌-◌, ◌≤◌}
 use mathlib.Core.Path.{◌≡◌}
 use lib.ListN.{take, drop}

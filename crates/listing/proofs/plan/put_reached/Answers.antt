@@ -32,7 +32,8 @@ get16-requires-2 c =
 
 pub bounds-flags-start : goal.bounds-flags-start
 bounds-flags-start c =
-    omega (arith, start c, c.requires.listable.formed.starts, c.requires.listable.sheet.shaped.most, flags (goal.at.bounds-flags-start c).Start)
+    omega (arith, start c, c.requires.listable.formed.starts, c.requires.listable.sheet.shaped.most,
+        flags (goal.at.bounds-flags-start c).Start)
 
 pub put_states-requires : goal.put_states-requires
 put_states-requires c =
@@ -40,7 +41,8 @@ put_states-requires c =
     let few = c.requires.listable.sheet.shaped.most in record {
       listable = c.requires.listable;
       n_value = (n, rw length-set (omega (arith, n, few, flags (goal.at.put_states-requires c).Start)));
-      by_index = λ t lt. started c.args.flags.now max_states c.requires.flags_value _ _ _ (start (goal.at.put_states-requires c).After-word_to_index-start) t (omega (arith, n, few));
+      by_index = λ t lt. started c.args.flags.now max_states c.requires.flags_value _ _ _
+          (start (goal.at.put_states-requires c).After-word_to_index-start) t (omega (arith, n, few));
       n_in_bounds = omega (arith, n, few, c.requires.max_states_in_bounds);
     }
 

@@ -1,3 +1,5 @@
+-- The loop's invariant is `Lined` of Reaching: the lines of the states below s that are reached are written, and the flags say which
+-- states those reach.
 use Prim.Native.Nat.{◌-◌}
 use lib.ListN.{length}
 use Rattle.model.specs.Read.{problem_of, cells_of}

@@ -29,12 +29,14 @@ chosen_action-at-requires c = record {
 
 pub flag_all-requires : goal.flag_all-requires
 flag_all-requires c =
-    let priced = chosen-priced c.requires.listable (decided (goal.at.flag_all-requires c).Else-is_terminal) c.requires.chooses _ c.chosen_action-at.ensures in record {
+    let priced = chosen-priced c.requires.listable (decided (goal.at.flag_all-requires c).Else-is_terminal) c.requires.chooses _
+        c.chosen_action-at.ensures in record {
       sheet_value = priced.fits;
       by_index = λ j lt. omega (arith, priced.below j lt, c.requires.state_bound.1);
     }
 
 pub returns : goal.returns
 returns c =
-    let found = chosen-successors c.requires.listable (decided (goal.at.returns c).Else-is_terminal) c.requires.chooses _ c.chosen_action-at.ensures in
+    let found = chosen-successors c.requires.listable (decided (goal.at.returns c).Else-is_terminal) c.requires.chooses _
+        c.chosen_action-at.ensures in
     c.flag_all.ensures ∙ ap (flagged _) found

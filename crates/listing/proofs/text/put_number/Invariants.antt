@@ -1,3 +1,4 @@
+-- The loop's invariant: the digits from place i on are written, and the others are those of what is left of the number.
 use Rattle.listing.proofs.Writing.{Digits}
 use Rattle.listing.proofs.text.put_number.Given as goal
 

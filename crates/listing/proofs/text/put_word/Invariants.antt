@@ -1,3 +1,4 @@
+-- The loop's invariant: the first i bytes of the word are written.
 use Prim.Native.Nat.{◌-◌, ◌≤◌}
 use lib.ListN.{length, take}
 use Rattle.layout.specs.Placed.{Wrote}

@@ -1,3 +1,5 @@
+-- The code's table passes the one test of all its entries, which computes. The loop's invariant: the entries before place n, but for the
+-- first, are at most x.
 use Prim.Native.Nat.{ℕ, ◌-◌, ◌^◌, ◌<◌, ◌≤◌}
 use Rattle.listing.specs.Width.{PowersThatFit}
 use Rattle.listing.proofs.width.width.Given as goal

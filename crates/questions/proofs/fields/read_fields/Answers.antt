@@ -93,7 +93,9 @@ overflow_add-at-then-size-gt0 c =
 
 pub loop-header-init : goal.loop-header-init
 loop-header-init c =
-    reading-actions-begins (turn (goal.at.loop-header-init c).After-byte_at) (no-terminal (goal.at.loop-header-init c).Else-byte_at-eq-TERMINAL_TAG) _ (sized (goal.at.loop-header-init c).After-header_size-size) c.if-size-gt0.true
+    reading-actions-begins (turn (goal.at.loop-header-init c).After-byte_at)
+        (no-terminal (goal.at.loop-header-init c).Else-byte_at-eq-TERMINAL_TAG) _
+            (sized (goal.at.loop-header-init c).After-header_size-size) c.if-size-gt0.true
 
 pub action_length-l-requires : goal.action_length-l-requires
 action_length-l-requires c =
@@ -110,7 +112,8 @@ loop-header-smaller c =
 pub loop-header-preserved : goal.loop-header-preserved
 loop-header-preserved c =
     let few : c.loop-header.n < max_actions = omega (arith, c.loop-header.invariant.upto, c.if-n-eq-MAX_ACTIONS.false) in
-    action-read c.loop-header.invariant few (action-here (goal.at.loop-header-preserved c).In-loop-header) c.action_length-l.ensures.0 (omega arith)
+    action-read c.loop-header.invariant few (action-here (goal.at.loop-header-preserved c).In-loop-header) c.action_length-l.ensures.0
+        (omega arith)
 
 pub counts_right-counts-requires : goal.counts_right-counts-requires
 counts_right-counts-requires c =
@@ -122,21 +125,25 @@ counts_right-counts-requires c =
 pub states-preserved : goal.states-preserved
 states-preserved c =
     let read =
-    decision-read (turn (goal.at.states-preserved c).After-byte_at) (no-terminal (goal.at.states-preserved c).Else-byte_at-eq-TERMINAL_TAG) _ (sized (goal.at.states-preserved c).After-header_size-size) c.if-size-gt0.true c.loop-header.invariant
+    decision-read (turn (goal.at.states-preserved c).After-byte_at)
+        (no-terminal (goal.at.states-preserved c).Else-byte_at-eq-TERMINAL_TAG) _
+            (sized (goal.at.states-preserved c).After-header_size-size) c.if-size-gt0.true c.loop-header.invariant
     (λ e. c.loop-header-test.false (c.byte_at-in-loop-header.ensures ∙ e)) in
     rw c.counts_right-counts.ensures read
 
 pub returns-else-field_fits : goal.returns-else-field_fits
 returns-else-field_fits c =
     let two = sym c.byte_at.ensures ∙ c.if-byte_at-eq-TERMINAL_TAG.true in record {
-      in_place_value = sym (terminal-out (turn (goal.at.returns-else-field_fits c).After-byte_at) two (sym c.field_fits.ensures ∙ c.if-field_fits.false));
+      in_place_value = sym (terminal-out (turn (goal.at.returns-else-field_fits c).After-byte_at) two (sym c.field_fits.ensures ∙
+          c.if-field_fits.false));
       counts_value = λ z. never z;
       table_after = λ z. never z;
     }
 
 pub returns-then-n-eq-MAX_ACTIONS : goal.returns-then-n-eq-MAX_ACTIONS
 returns-then-n-eq-MAX_ACTIONS c = record {
-  in_place_value = sym (action-misfit (goal.at.returns-then-n-eq-MAX_ACTIONS c).In-loop-header (inl (omega (arith, c.loop-header.invariant.upto, c.if-n-eq-MAX_ACTIONS.true))));
+  in_place_value = sym (action-misfit (goal.at.returns-then-n-eq-MAX_ACTIONS c).In-loop-header (inl
+      (omega (arith, c.loop-header.invariant.upto, c.if-n-eq-MAX_ACTIONS.true))));
   counts_value = λ z. never z;
   table_after = λ z. never z;
 }
@@ -151,7 +158,9 @@ returns-else-l-gt0 c = record {
 pub returns-else-size-gt0 : goal.returns-else-size-gt0
 returns-else-size-gt0 c =
     let none : c.header_size-size.result ≡ 0 = omega (arith, c.if-size-gt0.false) in record {
-      in_place_value = sym (header-out (turn (goal.at.returns-else-size-gt0 c).After-byte_at) (no-terminal (goal.at.returns-else-size-gt0 c).Else-byte_at-eq-TERMINAL_TAG) _ (sized (goal.at.returns-else-size-gt0 c).After-header_size-size) none);
+      in_place_value = sym (header-out (turn (goal.at.returns-else-size-gt0 c).After-byte_at) (no-terminal
+          (goal.at.returns-else-size-gt0 c).Else-byte_at-eq-TERMINAL_TAG) _
+              (sized (goal.at.returns-else-size-gt0 c).After-header_size-size) none);
       counts_value = λ z. never z;
       table_after = λ z. never z;
     }

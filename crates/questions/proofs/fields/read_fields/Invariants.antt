@@ -1,3 +1,4 @@
+-- What the two loops carry is `ReadingStates` and `ReadingActions` of Reading.
 use Prim.Native.Nat.{suc, ◌-◌}
 use Rattle.model.specs.Limits.{max_actions}
 use Rattle.questions.proofs.Reading.{ReadingStates, ReadingActions}

@@ -9,11 +9,14 @@ loop-k-init c =
 
 pub next_action-at-requires : goal.next_action-at-requires
 next_action-at-requires c =
-    let d = c.requires.decision in let below = c.requires.i_in_bounds in along-fits d c.loop-k.invariant.1 (omega (arith, below))
+    let d = c.requires.decision in
+    let below = c.requires.i_in_bounds in along-fits d c.loop-k.invariant.1 (omega (arith, below))
 
 pub loop-k-preserved : goal.loop-k-preserved
 loop-k-preserved c =
-    let d = c.requires.decision in let below = c.requires.i_in_bounds in (omega arith, along-next d c.loop-k.invariant.1 (omega (arith, below)) _ c.next_action-at.ensures.0)
+    let d = c.requires.decision in
+    let below = c.requires.i_in_bounds in (omega arith,
+        along-next d c.loop-k.invariant.1 (omega (arith, below)) _ c.next_action-at.ensures.0)
 
 pub returns : goal.returns
 returns c =

@@ -1,3 +1,4 @@
+-- The loop's invariant: action k, at most action i, stands at `at`.
 use Prim.Native.Nat.{◌-◌, ◌≤◌}
 use Rattle.questions.proofs.Stepping.{Along}
 use Rattle.questions.proofs.states.action_at.Given as goal

@@ -9,7 +9,8 @@ use Rattle.questions.proofs.states.all_pass.Goals as goal
 use Rattle.questions.proofs.states.all_pass.Goals.{After-passes}
 
 -- that answer
-passed : (c : After-passes) (b : Bool) → c.passes.result ≡ b → passes_at c.args.question (problem_of c.args.sheet.now) (cells_of c.args.sheet.now) c.loop-s.s ≡ b
+passed : (c : After-passes) (b : Bool) → c.passes.result ≡ b →
+    passes_at c.args.question (problem_of c.args.sheet.now) (cells_of c.args.sheet.now) c.loop-s.s ≡ b
 passed c b e = sym c.passes.ensures ∙ e
 
 pub loop-s-init : goal.loop-s-init

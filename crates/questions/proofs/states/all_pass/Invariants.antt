@@ -1,3 +1,4 @@
+-- The loop's invariant: the states before s pass.
 use Prim.Native.Nat.{◌-◌, ◌≤◌}
 use mathlib.Core.Path.{◌≡◌}
 use mathlib.Core.Bool.{true}

@@ -1,3 +1,4 @@
+-- The loop's invariant: there is another successor, and to ask it and those behind it is to ask all of them.
 use Prim.Native.Nat.{ℕ, ◌-◌, ◌<◌}
 use mathlib.Core.Path.{◌≡◌}
 use mathlib.Core.List.{List}

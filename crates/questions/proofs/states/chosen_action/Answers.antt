@@ -12,11 +12,13 @@ chosen c = c.word_to_index-chosen.ensures.0 ∙ c.byte_to_word.ensures.0 ∙ c.c
 
 pub action_at-requires : goal.action_at-requires
 action_at-requires c =
-    let decided = c.requires.decision in let exists = c.requires.state_in_bounds in record {
+    let decided = c.requires.decision in
+    let exists = c.requires.state_in_bounds in record {
       decision = decided;
       i_in_bounds = omega (arith, chosen c, exists);
     }
 
 pub returns : goal.returns
 returns c =
-    c.action_at.ensures ∙ ap (action_offset (problem_of c.args.sheet.now) c.args.state) (chosen (goal.at.returns c).After-word_to_index-chosen)
+    c.action_at.ensures ∙ ap (action_offset (problem_of c.args.sheet.now) c.args.state)
+        (chosen (goal.at.returns c).After-word_to_index-chosen)

@@ -1,3 +1,4 @@
+-- The loop's invariant: action n stands at `at`, and the costs of those before it are in range.
 use Prim.Native.Nat.{◌-◌}
 use mathlib.Core.Path.{◌≡◌}
 use mathlib.Core.Bool.{true}

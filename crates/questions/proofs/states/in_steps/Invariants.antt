@@ -1,3 +1,4 @@
+-- The loop's invariant: some action k, or the end of them, stands at `at`, and those before it are in order.
 use Prim.Native.Nat.{ℕ, ◌-◌}
 use mathlib.Core.Path.{◌≡◌}
 use mathlib.Core.Bool.{true}

@@ -20,7 +20,8 @@ value_under-requires c = record {
 pub mark_earned-requires : goal.mark_earned-requires
 mark_earned-requires c =
     let is = c.in-Marks.is in
-    let chosen = marks-chosen _ _ _ c.requires.before is _ c.requires.within.below (sym c.solved_at.ensures ∙ c.if-solved_at.true) in record {
+    let chosen = marks-chosen _ _ _ c.requires.before is _ c.requires.within.below (sym c.solved_at.ensures ∙ c.if-solved_at.true) in
+    record {
       within = c.requires.within;
       inside = marks-inside _ _ _ c.requires.before is;
       chosen_exists = chosen;

@@ -8,7 +8,10 @@ loop-s-init c = census-start _ _ _
 
 pub count_state-requires : goal.count_state-requires
 count_state-requires c =
-    let some = c.requires.n_nonzero in let (count, wide, few) = c.requires.n_value in let inside = c.requires.inside in let none = c.requires.by_index in record {
+    let some = c.requires.n_nonzero in
+    let (count, wide, few) = c.requires.n_value in
+    let inside = c.requires.inside in
+    let none = c.requires.by_index in record {
       within = stage-within _ _ _ _ some.1 count c.loop-s-test.true;
       inside = (inside, omega (arith, census-length _ _ _ _ _ c.loop-s.invariant, count, wide));
       by_index = census-room _ _ _ _ _ c.loop-s.invariant few none;
@@ -24,7 +27,8 @@ loop-s-preserved c =
 
 pub returns : goal.returns
 returns c =
-    let (count, wide, _) = c.requires.n_value in let none = c.requires.by_index in record {
+    let (count, wide, _) = c.requires.n_value in
+    let none = c.requires.by_index in record {
       by_index_2 = census-end _ _ _ _ _ c.loop-s.invariant count wide (omega arith) none;
       waits_len_unchanged = census-length _ _ _ _ _ c.loop-s.invariant;
     }

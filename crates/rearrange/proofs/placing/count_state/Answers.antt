@@ -18,7 +18,8 @@ decides c = decision-from c.requires.within _ c.is_terminal.ensures c.if-is_term
 -- action k is one of its actions
 stands : (c : In-loop-waits) → c.loop-waits.k < length (actions_at (problem_of c.args.sheet.now) c.args.state)
 stands c =
-    let decides : Decision c.args.sheet.now c.args.table.now c.args.state = (decision-from c.requires.within _ c.is_terminal.ensures c.if-is_terminal.false) in
+    let decides : Decision c.args.sheet.now c.args.table.now c.args.state =
+        (decision-from c.requires.within _ c.is_terminal.ensures c.if-is_terminal.false) in
     along-stands (decides) c.loop-waits.invariant.0 _ c.action_here.ensures c.loop-waits-test.true
 
 pub is_terminal-requires : goal.is_terminal-requires
@@ -35,17 +36,21 @@ loop-waits-init c = (along-begins (decides (goal.at.loop-waits-init c).Else-is_t
 
 pub count_successors-requires : goal.count_successors-requires
 count_successors-requires c =
-    let (inside, wide) = c.requires.inside in let room = c.requires.by_index in let d = decides (goal.at.count_successors-requires c).Else-is_terminal in
+    let (inside, wide) = c.requires.inside in
+    let room = c.requires.by_index in
+    let d = decides (goal.at.count_successors-requires c).Else-is_terminal in
     let (along, tally) = c.loop-waits.invariant in
     let is = along-is d along (stands (goal.at.count_successors-requires c).In-loop-waits) in record {
       sheet_value = along-fits d along (stands (goal.at.count_successors-requires c).In-loop-waits);
-      by_index = checks-below d inside _ c.loop-waits.k _ (omega (arith, tally-length _ _ _ _ tally, wide)) (stands (goal.at.count_successors-requires c).In-loop-waits) is;
+      by_index = checks-below d inside _ c.loop-waits.k _ (omega (arith, tally-length _ _ _ _ tally, wide))
+          (stands (goal.at.count_successors-requires c).In-loop-waits) is;
       by_index_2 = tally-room _ _ _ _ tally (checks-shaped d) (few d) (stands (goal.at.count_successors-requires c).In-loop-waits) room;
     }
 
 pub next_action-at-requires : goal.next_action-at-requires
 next_action-at-requires c =
-    along-fits (decides (goal.at.next_action-at-requires c).Else-is_terminal) c.loop-waits.invariant.0 (stands (goal.at.next_action-at-requires c).In-loop-waits)
+    along-fits (decides (goal.at.next_action-at-requires c).Else-is_terminal) c.loop-waits.invariant.0
+        (stands (goal.at.next_action-at-requires c).In-loop-waits)
 
 pub overflow_add-k : goal.overflow_add-k
 overflow_add-k c =
@@ -59,10 +64,12 @@ loop-waits-preserved c =
     let d = decides (goal.at.loop-waits-preserved c).Else-is_terminal in
     let (along, tally) = c.loop-waits.invariant in (
       along-next d along (stands (goal.at.loop-waits-preserved c).In-loop-waits) _ c.next_action-at.ensures.0,
-      tally-next _ _ _ _ tally _ (stands (goal.at.loop-waits-preserved c).In-loop-waits) (along-is d along (stands (goal.at.loop-waits-preserved c).In-loop-waits)) _ c.count_successors.ensures,
+      tally-next _ _ _ _ tally _ (stands (goal.at.loop-waits-preserved c).In-loop-waits)
+          (along-is d along (stands (goal.at.loop-waits-preserved c).In-loop-waits)) _ c.count_successors.ensures,
     )
 
 pub returns : goal.returns
 returns c =
     let (along, tally) = c.loop-waits.invariant in
-    tally-end _ _ _ _ tally (along-ends (decides (goal.at.returns c).Else-is_terminal) along _ c.action_here.ensures c.loop-waits-test.false)
+    tally-end _ _ _ _ tally (along-ends (decides (goal.at.returns c).Else-is_terminal) along _ c.action_here.ensures
+        c.loop-waits-test.false)

@@ -1,3 +1,4 @@
+-- The loop's invariant: action k, or the end of them, stands at `at`, and the findings of those before it have been counted.
 use Prim.Native.Nat.{◌-◌}
 use lib.ListN.{length}
 use Rattle.model.specs.Read.{problem_of}

@@ -20,7 +20,8 @@ next_free-t-requires c = record {
 
 pub returns-then-t-n : goal.returns-then-t-n
 returns-then-t-n c =
-    let (count, wide, long, _) = c.requires.n_value in let every = run-stuck _ _ _ _ _ _ _ _ c.loop-k.invariant count wide long c.loop-k-test.true _ c.next_free-t.ensures
+    let (count, wide, long, _) = c.requires.n_value in
+    let every = run-stuck _ _ _ _ _ _ _ _ c.loop-k.invariant count wide long c.loop-k-test.true _ c.next_free-t.ensures
     c.if-t-n.true in
     record { value = every.0; after = every.1.0; by_index_2 = every.1.1 }
 
@@ -48,7 +49,11 @@ overflow_add-t c =
 
 pub release-low-requires : goal.release-low-requires
 release-low-requires c =
-    let (_, within) = c.requires.n_nonzero in let (count, wide, long, _) = c.requires.n_value in let inside = c.requires.inside in let lt = below (goal.at.release-low-requires c).Else-t-n in let others = release-asks _ _ _ _ _ _ _ _ c.loop-k.invariant count wide long c.loop-k-test.true _ c.next_free-t.ensures
+    let (_, within) = c.requires.n_nonzero in
+    let (count, wide, long, _) = c.requires.n_value in
+    let inside = c.requires.inside in
+    let lt = below (goal.at.release-low-requires c).Else-t-n in
+    let others = release-asks _ _ _ _ _ _ _ _ c.loop-k.invariant count wide long c.loop-k-test.true _ c.next_free-t.ensures
     lt inside _ c.index_to_word-in-loop-k.ensures in
     record { within = stage-within _ _ _ _ within count lt; by_index = others.0; by_index_2 = others.1 }
 
@@ -57,10 +62,15 @@ overflow_add-k-in-loop-k c = omega (arith, c.requires.n_value.3)
 
 pub loop-k-preserved : goal.loop-k-preserved
 loop-k-preserved c =
-    let (count, wide, long, _) = c.requires.n_value in let inside = c.requires.inside in let less = c.release-low.ensures.waits_after in let (_, lows) = c.release-low.ensures.upper_bound in run-again _ _ _ _ _ _ _ _ c.loop-k.invariant count wide long c.loop-k-test.true _ c.next_free-t.ensures
+    let (count, wide, long, _) = c.requires.n_value in
+    let inside = c.requires.inside in
+    let less = c.release-low.ensures.waits_after in
+    let (_, lows) = c.release-low.ensures.upper_bound in
+    run-again _ _ _ _ _ _ _ _ c.loop-k.invariant count wide long c.loop-k-test.true _ c.next_free-t.ensures
     (below (goal.at.loop-k-preserved c).Else-t-n) inside _ _ c.index_to_word-in-loop-k.ensures c.index_to_word.ensures _ _ less lows
 
 pub returns : goal.returns
 returns c =
-    let (count, wide, long, _) = c.requires.n_value in let every = run-full _ _ _ _ _ _ _ _ c.loop-k.invariant count wide long (omega arith) in
+    let (count, wide, long, _) = c.requires.n_value in
+    let every = run-full _ _ _ _ _ _ _ _ c.loop-k.invariant count wide long (omega arith) in
     record { value = every.0; after = every.1.0; by_index_2 = every.1.1 }

@@ -1,3 +1,4 @@
+-- The loop's invariant: some action i stands at `at`, and the least price so far, with those of the actions left, gives the least of all.
 use Prim.Native.Nat.{ℕ, ◌-◌, ◌<◌}
 use mathlib.Core.List.{List}
 use mathlib.Core.Path.{◌≡◌}

@@ -1,3 +1,4 @@
+-- The loop carries what `Passing` says. The measure is what is left of the budget: a pass that fails has raised something.
 use Prim.Native.Nat.{◌-◌}
 use Rattle.model.specs.Read.{problem_of}
 use Rattle.search.proofs.Passing.{Passing}

@@ -1,3 +1,4 @@
+-- The chosen action stands five bytes behind the value.
 use native.Mathlib.Omega.{arith}
 use Rattle.sheet.proofs.Laws.{chosen-room, chosen_of}
 use Rattle.sheet.proofs.fields.chosen_at.Goals as goal

@@ -1,3 +1,4 @@
+-- The place of the state is read from the table, its tag there, and the second byte of its field's length behind it.
 use native.Mathlib.Omega.{arith}
 use Rattle.sheet.proofs.Laws.{state-in, nine-room, first-of-plain, first-by-length}
 use Rattle.sheet.proofs.fields.first_action.Goals as goal

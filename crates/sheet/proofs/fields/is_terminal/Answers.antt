@@ -1,3 +1,4 @@
+-- The place of the state is read from the table, and the tag at it.
 use Rattle.sheet.proofs.Laws.{state-in, tag-of}
 use Rattle.sheet.proofs.fields.is_terminal.Goals as goal
 

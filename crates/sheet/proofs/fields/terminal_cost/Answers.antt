@@ -1,3 +1,4 @@
+-- The place of the state is read from the table, and the cost behind it.
 use native.Mathlib.Omega.{arith}
 use Rattle.sheet.proofs.Laws.{nine-room, terminal-cost-of}
 use Rattle.sheet.proofs.fields.terminal_cost.Goals as goal

@@ -1,3 +1,5 @@
+-- The loop's invariant: the largest and the sum so far, joined with the values of the successors left, are those of all of them, and so
+-- is the dearest so far.
 use Prim.Native.Nat.{ℕ, ◌-◌, ◌<◌}
 use mathlib.Core.List.{List}
 use lib.ListN.{length, drop}

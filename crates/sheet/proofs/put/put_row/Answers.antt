@@ -11,7 +11,8 @@ bounds-row-j c = omega (arith, c.requires.m_in_bounds.0)
 pub put16-end-requires : goal.put16-end-requires
 put16-end-requires c =
     let left = c.loop-j-test.true in
-    let fits = c.requires.m_in_bounds in let small = c.requires.by_index in (small _ left, rowing-room _ _ _ _ _ _ _ c.loop-j.invariant fits left)
+    let fits = c.requires.m_in_bounds in
+    let small = c.requires.by_index in (small _ left, rowing-room _ _ _ _ _ _ _ c.loop-j.invariant fits left)
 
 pub loop-j-preserved : goal.loop-j-preserved
 loop-j-preserved c =
