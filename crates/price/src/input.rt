@@ -1,5 +1,5 @@
 // Reading a sheet.
-ghost use Rattle.std.specs.Prelude.{◌≡◌, ◌≤◌, length, take};
+ghost use Rattle.std.specs.Counts.{IsPrefixLen};
 
 use crate::output::fail;
 use std::io::Read;
@@ -13,8 +13,7 @@ pub(crate) struct Input {
 
 // Reads until the buffer is full, the input ends, or a read fails, which it says on standard error by the input's name (S10.6).
 pub(crate) fn read(errors: &impl Print, from: &mut impl Read, name: &[u8], buf: &mut [u8]) -> Input
-    ensures within { result.count ≤ length buf.new }
-    ensures whole { result.count ≡ length (take result.count buf.new) }
+    ensures { IsPrefixLen result.count buf.new }
 {
     let mut count: usize = 0;
     while count < buf.len() {

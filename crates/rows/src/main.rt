@@ -39,7 +39,7 @@ mod cases; // cases.rt: a case and its options
 mod text; // text.rt: a line of the text, read a byte at a time
 mod commands; // commands.rt: what a line asks for
 
-ghost use Rattle.std.specs.Prelude.{◌≡◌, ◌≤◌, length, take};
+ghost use Rattle.std.specs.Counts.{IsPrefixLen};
 
 use commands::{obey, start};
 use std::io::Read;
@@ -78,8 +78,7 @@ fn run(rt: &impl Print, text: &[u8]) {
 
 // Reads until the buffer is full, the input ends or a read fails, and answers how many bytes it has of the input.
 fn read_full(from: &mut impl Read, buf: &mut [u8]) -> usize
-    ensures within { result ≤ length buf.new }
-    ensures whole { result ≡ length (take result buf.new) }
+    ensures { IsPrefixLen result buf.new }
 {
     let mut done = 0;
     while done < buf.len() {
