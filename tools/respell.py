@@ -3,7 +3,7 @@
 
 usage: respell.py FOLDER
 
-FOLDER is the top of a checkout that /opt/rattle/port/port.py has turned and that nobody has edited since. A name that is declared in specs/ or
+FOLDER is the top of a checkout that the kit's port.py has turned and that nobody has edited since. A name that is declared in specs/ or
 proofs/ in camel case, with a small first letter, becomes snake case (cellsAfter: cells_after); a field of a record and a constructor also lose their
 dashes (still-accepted: still_accepted). Words are turned whole, in .antt, .rt and .edit files below crates/ and in the pages. Functions of src/,
 exported names, strings, inputs and outputs have other spellings and stay. It prints each name with its new spelling, and stops where two names would

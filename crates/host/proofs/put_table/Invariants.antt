@@ -16,7 +16,7 @@ decreases-loop-i l = length l.table - l.i
 abbrev pub invariant-loop-i-2 : goal.invariant-loop-i-2
 invariant-loop-i-2 l =
     (l.initial.i ≤ l.i) × (length l.bytes ≡ length l.initial.bytes) ×
-        ((b : List ℕ) → Entered b l.table l.n l.initial.bytes l.initial.i → Entered b l.table l.n l.bytes l.i)
+    ((b : List ℕ) → Entered b l.table l.n l.initial.bytes l.initial.i → Entered b l.table l.n l.bytes l.i)
 
 abbrev pub decreases-loop-i-2 : goal.decreases-loop-i-2
 decreases-loop-i-2 l = l.n - l.i

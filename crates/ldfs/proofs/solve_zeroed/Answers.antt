@@ -33,7 +33,7 @@ returns-in-Refused c =
 pub returns-then-budget-eq0 : goal.returns-then-budget-eq0
 returns-then-budget-eq0 c = let every = no-budget _ _ _ (accepted-at (goal.at.returns-then-budget-eq0 c).In-Accepted)
     (bytes-at (goal.at.returns-then-budget-eq0 c).After-ask-v) _ c.ask-v.ensures.table c.if-budget-eq0.true _
-        c.refusal-then-budget-eq0.ensures _
+    c.refusal-then-budget-eq0.ensures _
     c.clear.ensures in
     record { answer = every.0; sheet = every.1.0; table = every.1.1 }
 

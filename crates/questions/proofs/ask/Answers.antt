@@ -16,7 +16,7 @@ pub returns-then-n-eq0 : goal.returns-then-n-eq0
 returns-then-n-eq0 c =
     let no = rw (limit-of (goal.at.returns-then-n-eq0 c).After-first_no-n) at c.first_no-n.ensures in
     let both = accepted-table c.args.sheet.now c.args.table.now c.first_no-n.result no.value _ c.if-n-eq0.true
-        (no.table_after c.if-n-eq0.true) in
+    (no.table_after c.if-n-eq0.true) in
     record { answer = both.0; table = both.1 }
 
 pub returns-else-n-eq0 : goal.returns-else-n-eq0
@@ -24,5 +24,5 @@ returns-else-n-eq0 c =
     let is = rw (limit-of (goal.at.returns-else-n-eq0 c).After-first_no-n) at c.first_no-n.ensures.value in
     let long : length c.first_no-n.new.table ≡ length c.args.table.now = omega arith in
     let both = refused-table c.args.sheet.now c.args.table.now c.first_no-n.result is c.first_no-n.new.table _ c.if-n-eq0.false long
-        c.clear.ensures in
+    c.clear.ensures in
     record { answer = both.0; table = both.1 }

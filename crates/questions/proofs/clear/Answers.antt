@@ -26,4 +26,4 @@ loop-i-preserved c = (
 pub returns : goal.returns
 returns c =
     cleared-all c.args.table.now c.loop-i.table c.args.from c.loop-i.i (omega arith) c.loop-i.invariant.1 c.loop-i.invariant.2
-        c.loop-i.invariant.3
+    c.loop-i.invariant.3

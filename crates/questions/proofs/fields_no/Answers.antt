@@ -48,9 +48,11 @@ get16-requires c = omega arith
 
 pub read_fields-f-requires : goal.read_fields-f-requires
 read_fields-f-requires c =
-    let h = head-says c.args.sheet.now (headed (goal.at.read_fields-f-requires c).Then-head_in_place) in
-    (omega (arith, counted (goal.at.read_fields-f-requires c).After-word_to_index-n, h.5, c.requires.0), omega arith,
-        c.if-sheet-gt-MAX_BYTES.false)
+    let h = head-says c.args.sheet.now (headed (goal.at.read_fields-f-requires c).Then-head_in_place) in (
+      omega (arith, counted (goal.at.read_fields-f-requires c).After-word_to_index-n, h.5, c.requires.0),
+      omega arith,
+      c.if-sheet-gt-MAX_BYTES.false,
+    )
 
 pub returns-then-f-2 : goal.returns-then-f-2
 returns-then-f-2 c =

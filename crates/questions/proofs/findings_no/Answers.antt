@@ -34,12 +34,12 @@ all_pass-requires-then-all_pass c = record {
 pub returns-then-all_pass-2 : goal.returns-then-all_pass-2
 returns-then-all_pass-2 c =
     findings-yes _ _ _ (five (goal.at.returns-then-all_pass-2 c).After-all_pass true c.if-all_pass.true)
-        (six (goal.at.returns-then-all_pass-2 c).After-all_pass-then-all_pass true c.if-all_pass-2.true)
+    (six (goal.at.returns-then-all_pass-2 c).After-all_pass-then-all_pass true c.if-all_pass-2.true)
 
 pub returns-else-all_pass-2 : goal.returns-else-all_pass-2
 returns-else-all_pass-2 c =
     no-6 _ _ _ (five (goal.at.returns-else-all_pass-2 c).After-all_pass true c.if-all_pass.true)
-        (six (goal.at.returns-else-all_pass-2 c).After-all_pass-then-all_pass false c.if-all_pass-2.false)
+    (six (goal.at.returns-else-all_pass-2 c).After-all_pass-then-all_pass false c.if-all_pass-2.false)
 
 pub returns-else-all_pass : goal.returns-else-all_pass
 returns-else-all_pass c = no-5 _ _ _ (five (goal.at.returns-else-all_pass c).After-all_pass false c.if-all_pass.false)

@@ -12,18 +12,18 @@ five c = sym c.get16.ensures.0 ∙ c.if-get16-eq-HEAD_LENGTH.true
 pub returns-then-s-gt-WHOLE : goal.returns-then-s-gt-WHOLE
 returns-then-s-gt-WHOLE c =
     head-kind c.args.wanted c.args.limit c.args.s.now c.requires c.if-s-wanted.true
-        (five (goal.at.returns-then-s-gt-WHOLE c).Then-get16-eq-HEAD_LENGTH) c.if-s-gt-WHOLE.true
+    (five (goal.at.returns-then-s-gt-WHOLE c).Then-get16-eq-HEAD_LENGTH) c.if-s-gt-WHOLE.true
 
 pub returns-then-n-lt1 : goal.returns-then-n-lt1
 returns-then-n-lt1 c =
     let head = head-none c.args.wanted c.args.limit c.args.s.now c.requires c.if-s-wanted.true
-        (five (goal.at.returns-then-n-lt1 c).Then-get16-eq-HEAD_LENGTH) c.if-s-gt-WHOLE.false in
+    (five (goal.at.returns-then-n-lt1 c).Then-get16-eq-HEAD_LENGTH) c.if-s-gt-WHOLE.false in
     head (omega (arith, c.get16-n.ensures.0, c.if-n-lt1.true))
 
 pub returns-then-word_to_index-limit : goal.returns-then-word_to_index-limit
 returns-then-word_to_index-limit c =
     let head = head-many c.args.wanted c.args.limit c.args.s.now c.requires c.if-s-wanted.true
-        (five (goal.at.returns-then-word_to_index-limit c).Then-get16-eq-HEAD_LENGTH) c.if-s-gt-WHOLE.false in
+    (five (goal.at.returns-then-word_to_index-limit c).Then-get16-eq-HEAD_LENGTH) c.if-s-gt-WHOLE.false in
     let n = c.word_to_index.ensures.0 ∙ c.get16-n.ensures.0 in
     head (omega (arith, c.get16-n.ensures.0, c.if-n-lt1.false)) (omega (arith, n, c.if-word_to_index-limit.true))
 
@@ -31,14 +31,14 @@ pub returns-else-word_to_index-limit : goal.returns-else-word_to_index-limit
 returns-else-word_to_index-limit c =
     let index = c.word_to_index.ensures.0 ∙ c.get16-n.ensures.0 in
     let head = head-start c.args.wanted c.args.limit c.args.s.now c.requires c.if-s-wanted.true
-        (five (goal.at.returns-else-word_to_index-limit c).Then-get16-eq-HEAD_LENGTH) c.if-s-gt-WHOLE.false in
+    (five (goal.at.returns-else-word_to_index-limit c).Then-get16-eq-HEAD_LENGTH) c.if-s-gt-WHOLE.false in
     rw (c.get16-then-get16-eq-HEAD_LENGTH.ensures.0, c.get16-n.ensures.0)
-        (head (omega (arith, c.get16-n.ensures.0, c.if-n-lt1.false)) (omega (arith, index, c.if-word_to_index-limit.false)))
+    (head (omega (arith, c.get16-n.ensures.0, c.if-n-lt1.false)) (omega (arith, index, c.if-word_to_index-limit.false)))
 
 pub returns-else-get16-eq-HEAD_LENGTH : goal.returns-else-get16-eq-HEAD_LENGTH
 returns-else-get16-eq-HEAD_LENGTH c =
     head-length c.args.wanted c.args.limit c.args.s.now c.requires c.if-s-wanted.true
-        (λ e. c.if-get16-eq-HEAD_LENGTH.false (c.get16.ensures.0 ∙ e))
+    (λ e. c.if-get16-eq-HEAD_LENGTH.false (c.get16.ensures.0 ∙ e))
 
 pub returns-else-s-wanted : goal.returns-else-s-wanted
 returns-else-s-wanted c =

@@ -38,12 +38,12 @@ all_pass-requires-then-all_pass c =
 pub returns-then-all_pass-2 : goal.returns-then-all_pass-2
 returns-then-all_pass-2 c =
     marks-yes _ _ (seven (goal.at.returns-then-all_pass-2 c).After-all_pass true c.if-all_pass.true)
-        (eight (goal.at.returns-then-all_pass-2 c).After-all_pass-then-all_pass true c.if-all_pass-2.true)
+    (eight (goal.at.returns-then-all_pass-2 c).After-all_pass-then-all_pass true c.if-all_pass-2.true)
 
 pub returns-else-all_pass-2 : goal.returns-else-all_pass-2
 returns-else-all_pass-2 c =
     no-8 _ _ (seven (goal.at.returns-else-all_pass-2 c).After-all_pass true c.if-all_pass.true)
-        (eight (goal.at.returns-else-all_pass-2 c).After-all_pass-then-all_pass false c.if-all_pass-2.false)
+    (eight (goal.at.returns-else-all_pass-2 c).After-all_pass-then-all_pass false c.if-all_pass-2.false)
 
 pub returns-else-all_pass : goal.returns-else-all_pass
 returns-else-all_pass c = no-7 _ _ (seven (goal.at.returns-else-all_pass c).After-all_pass false c.if-all_pass.false)

@@ -27,8 +27,15 @@ findings_no-no-requires c = record {
 
 pub places-requires : goal.places-requires
 places-requires c = record {
-  n_in_bounds = (c.requires.n_in_bounds.0, c.requires.n_in_bounds.1, omega (arith, c.requires.ready.count,
-      c.requires.ready.within.sheet.shaped.most));
+  n_in_bounds = (
+    c.requires.n_in_bounds.0,
+    c.requires.n_in_bounds.1,
+    omega (
+      arith,
+      c.requires.ready.count,
+      c.requires.ready.within.sheet.shaped.most,
+    ),
+  );
   by_index = c.requires.n_in_bounds.2;
 }
 

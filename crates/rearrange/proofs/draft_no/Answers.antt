@@ -20,7 +20,7 @@ inside : (c : Then-no-eq0) → Inside (problem_of c.args.sheet.now)
 unfolding findings_by
 inside c =
     let yes-6 : question6_draft (problem_of c.args.sheet.now) ≡ true =
-        ((yes-5-6 _ _ _ (sym c.findings_no-no.ensures ∙ c.if-no-eq0.true)).1) in draft-inside _ (yes-6)
+    ((yes-5-6 _ _ _ (sym c.findings_no-no.ensures ∙ c.if-no-eq0.true)).1) in draft-inside _ (yes-6)
 
 -- n fits two bytes
 few : (c : Start) → c.args.n < 65536
@@ -45,8 +45,12 @@ place_all-placed-requires c =
     let waits = c.count_all.ensures.by_index_2 in
     let same = c.count_all.ensures.waits_len_unchanged in record {
       n_nonzero = (c.requires.ready.some, c.requires.ready.within);
-      n_value = (c.requires.ready.count, omega (arith, same, c.requires.n_in_bounds.0), c.requires.n_in_bounds.1,
-          few (goal.at.place_all-placed-requires c).Start);
+      n_value = (
+        c.requires.ready.count,
+        omega (arith, same, c.requires.n_in_bounds.0),
+        c.requires.n_in_bounds.1,
+        few (goal.at.place_all-placed-requires c).Start,
+      );
       inside = inside (goal.at.place_all-placed-requires c).Then-no-eq0;
       by_index = waits;
     }

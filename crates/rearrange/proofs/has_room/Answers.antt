@@ -14,9 +14,9 @@ returns-then-output-sheet c = sym (short-output _ _ _ _ (omega (arith, c.if-tabl
 pub returns-then-list-lt-MAX_STATES : goal.returns-then-list-lt-MAX_STATES
 returns-then-list-lt-MAX_STATES c =
     sym (short-list _ _ _ _ (omega (arith, c.if-table-lt-MAX_STATES.false)) (omega (arith, c.if-output-sheet.false)) (omega
-        (arith, c.if-list-lt-MAX_STATES.true)))
+    (arith, c.if-list-lt-MAX_STATES.true)))
 
 pub returns : goal.returns
 returns c =
     sym (room-enough _ _ _ _ (omega (arith, c.if-table-lt-MAX_STATES.false)) (omega (arith, c.if-output-sheet.false)) (omega
-        (arith, c.if-list-lt-MAX_STATES.false)))
+    (arith, c.if-list-lt-MAX_STATES.false)))

@@ -30,7 +30,7 @@ returns-then-no-eq0 c =
     let list = c.turn_draft-no.ensures.list_after in
     let table = c.turn_draft-no.ensures.table_after in
     let every = rearrange-yes c.args.sheet.now c.args.table.now c.args.output.now c.args.list.now
-        (room (goal.at.returns-then-no-eq0 c).Then-has_room) _ is c.if-no-eq0.true
+    (room (goal.at.returns-then-no-eq0 c).Then-has_room) _ is c.if-no-eq0.true
     (table c.if-no-eq0.true ∙ ap (indexed_before c.args.sheet.now) c.clear.ensures) output list in
     record { answer = every.0; output = every.1.0; list = every.1.1.0; table = every.1.1.1 }
 
@@ -41,9 +41,9 @@ returns-then-has_room c =
     let list = c.turn_draft-no.ensures.list_after in
     let table = c.turn_draft-no.ensures.table_after in
     let long : length c.turn_draft-no.new.table ≡ length c.args.table.now =
-        omega (arith, cleared-length-of (goal.at.returns-then-has_room c).After-clear) in
+    omega (arith, cleared-length-of (goal.at.returns-then-has_room c).After-clear) in
     let every = rearrange-no c.args.sheet.now c.args.table.now c.args.output.now c.args.list.now
-        (room (goal.at.returns-then-has_room c).Then-has_room) _ is c.if-no-eq0.false
+    (room (goal.at.returns-then-has_room c).Then-has_room) _ is c.if-no-eq0.false
     c.turn_draft-no.new.table long c.clear-then-has_room.ensures output list in
     record { answer = every.0; output = every.1.0; list = every.1.1.0; table = every.1.1.1 }
 

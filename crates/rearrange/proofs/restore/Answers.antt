@@ -29,7 +29,7 @@ returns-then-no-eq0 c =
     let output = c.turn_back-no.ensures.output_after in
     let table = c.turn_back-no.ensures.table_after in
     let every = restore-yes c.args.sheet.now c.args.table.now c.args.list.now c.args.output.now
-        (room (goal.at.returns-then-no-eq0 c).Then-has_room) _ is c.if-no-eq0.true
+    (room (goal.at.returns-then-no-eq0 c).Then-has_room) _ is c.if-no-eq0.true
     (table c.if-no-eq0.true ∙ ap (indexed_before c.args.sheet.now) c.clear.ensures) output in
     record { answer = every.0; output = every.1.0; table = every.1.1 }
 
@@ -39,9 +39,9 @@ returns-then-has_room c =
     let output = c.turn_back-no.ensures.output_after in
     let table = c.turn_back-no.ensures.table_after in
     let long : length c.turn_back-no.new.table ≡ length c.args.table.now =
-        omega (arith, cleared-length-of (goal.at.returns-then-has_room c).After-clear) in
+    omega (arith, cleared-length-of (goal.at.returns-then-has_room c).After-clear) in
     let every = restore-no c.args.sheet.now c.args.table.now c.args.list.now c.args.output.now
-        (room (goal.at.returns-then-has_room c).Then-has_room) _ is c.if-no-eq0.false
+    (room (goal.at.returns-then-has_room c).Then-has_room) _ is c.if-no-eq0.false
     c.turn_back-no.new.table long c.clear-then-has_room.ensures output in
     record { answer = every.0; output = every.1.0; table = every.1.1 }
 

@@ -37,12 +37,12 @@ chosen_action-action-requires c = record {
 pub price-x-requires : goal.price-x-requires
 price-x-requires c =
     chosen-priced c.requires.listable (decided (goal.at.price-x-requires c).Else-is_terminal) c.requires.chooses _
-        c.chosen_action-action.ensures
+    c.chosen_action-action.ensures
 
 pub returns : goal.returns
 returns c =
     let found = chosen-successors c.requires.listable (decided (goal.at.returns c).Else-is_terminal) c.requires.chooses _
-        c.chosen_action-action.ensures in
+    c.chosen_action-action.ensures in
     let named = c.price-x.ensures.2 ∙ ap (dearest (value_of (cells_of c.args.sheet.now))) found in
     let by-is = c.put_field-next.ensures.wrote in
     let by_end = c.put_field-next.ensures.upper_bound in record {

@@ -32,8 +32,13 @@ get16-requires-2 c =
 
 pub bounds-flags-start : goal.bounds-flags-start
 bounds-flags-start c =
-    omega (arith, start c, c.requires.listable.formed.starts, c.requires.listable.sheet.shaped.most,
-        flags (goal.at.bounds-flags-start c).Start)
+    omega (
+      arith,
+      start c,
+      c.requires.listable.formed.starts,
+      c.requires.listable.sheet.shaped.most,
+      flags (goal.at.bounds-flags-start c).Start,
+    )
 
 pub put_states-requires : goal.put_states-requires
 put_states-requires c =

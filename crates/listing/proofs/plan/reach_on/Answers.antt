@@ -30,7 +30,7 @@ chosen_action-at-requires c = record {
 pub flag_all-requires : goal.flag_all-requires
 flag_all-requires c =
     let priced = chosen-priced c.requires.listable (decided (goal.at.flag_all-requires c).Else-is_terminal) c.requires.chooses _
-        c.chosen_action-at.ensures in record {
+    c.chosen_action-at.ensures in record {
       sheet_value = priced.fits;
       by_index = λ j lt. omega (arith, priced.below j lt, c.requires.state_bound.1);
     }
@@ -38,5 +38,5 @@ flag_all-requires c =
 pub returns : goal.returns
 returns c =
     let found = chosen-successors c.requires.listable (decided (goal.at.returns c).Else-is_terminal) c.requires.chooses _
-        c.chosen_action-at.ensures in
+    c.chosen_action-at.ensures in
     c.flag_all.ensures ∙ ap (flagged _) found

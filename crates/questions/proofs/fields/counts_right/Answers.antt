@@ -27,17 +27,21 @@ bounds-s-at c =
 pub bounds-s-at-then-s-at-eq-COUNTED_TAG : goal.bounds-s-at-then-s-at-eq-COUNTED_TAG
 bounds-s-at-then-s-at-eq-COUNTED_TAG c =
     count-inside _ _ c.requires.at_in_bounds.0 c.requires.s_value
-        (tagged (goal.at.bounds-s-at-then-s-at-eq-COUNTED_TAG c).Then-s-at-eq-COUNTED_TAG)
+    (tagged (goal.at.bounds-s-at-then-s-at-eq-COUNTED_TAG c).Then-s-at-eq-COUNTED_TAG)
 
 pub returns-then-byte_to_index-n : goal.returns-then-byte_to_index-n
 returns-then-byte_to_index-n c =
-    sym (rw (number_is (goal.at.returns-then-byte_to_index-n c).After-byte_to_index,
-        eq-eqb _ _ c.if-byte_to_index-n.true) (also-yes c.args.before))
+    sym (rw (
+      number_is (goal.at.returns-then-byte_to_index-n c).After-byte_to_index,
+      eq-eqb _ _ c.if-byte_to_index-n.true,
+    ) (also-yes c.args.before))
 
 pub returns-else-byte_to_index-n : goal.returns-else-byte_to_index-n
 returns-else-byte_to_index-n c =
-    sym (rw (number_is (goal.at.returns-else-byte_to_index-n c).After-byte_to_index,
-        ne_eqb _ _ c.if-byte_to_index-n.false) (also-no c.args.before))
+    sym (rw (
+      number_is (goal.at.returns-else-byte_to_index-n c).After-byte_to_index,
+      ne_eqb _ _ c.if-byte_to_index-n.false,
+    ) (also-no c.args.before))
 
 pub returns-else-s-at-eq-COUNTED_TAG : goal.returns-else-s-at-eq-COUNTED_TAG
 returns-else-s-at-eq-COUNTED_TAG c =

@@ -32,7 +32,7 @@ counted : (c : After-field_fits-then-tag-eq-COUNTED_TAG) (b : Bool) → c.field_
 counted c b e =
     let tag_is : c.byte_at-tag.result ≡ get_or c.args.s.now c.args.at 0 = (c.byte_at-tag.ensures) in
     header-counted c.args.s.now c.args.at (sym (tag_is) ∙ c.if-tag-eq-COUNTED_TAG.true) b
-        (sym e ∙ c.field_fits-then-tag-eq-COUNTED_TAG.ensures)
+    (sym e ∙ c.field_fits-then-tag-eq-COUNTED_TAG.ensures)
 
 pub returns-then-field_fits : goal.returns-then-field_fits
 returns-then-field_fits c = (plain (goal.at.returns-then-field_fits c).After-field_fits true c.if-field_fits.true, omega arith)
@@ -41,15 +41,23 @@ pub returns-else-field_fits : goal.returns-else-field_fits
 returns-else-field_fits c = (plain (goal.at.returns-else-field_fits c).After-field_fits false c.if-field_fits.false, omega arith)
 
 pub returns-then-field_fits-2 : goal.returns-then-field_fits-2
-returns-then-field_fits-2 c = (counted (goal.at.returns-then-field_fits-2 c).After-field_fits-then-tag-eq-COUNTED_TAG true
-    c.if-field_fits-2.true, omega arith)
+returns-then-field_fits-2 c = (
+  counted (goal.at.returns-then-field_fits-2 c).After-field_fits-then-tag-eq-COUNTED_TAG true
+      c.if-field_fits-2.true,
+  omega arith,
+)
 
 pub returns-else-field_fits-2 : goal.returns-else-field_fits-2
-returns-else-field_fits-2 c = (counted (goal.at.returns-else-field_fits-2 c).After-field_fits-then-tag-eq-COUNTED_TAG false
-    c.if-field_fits-2.false, omega arith)
+returns-else-field_fits-2 c = (
+  counted (goal.at.returns-else-field_fits-2 c).After-field_fits-then-tag-eq-COUNTED_TAG false
+      c.if-field_fits-2.false,
+  omega arith,
+)
 
 pub returns-else-tag-eq-COUNTED_TAG : goal.returns-else-tag-eq-COUNTED_TAG
-returns-else-tag-eq-COUNTED_TAG c =
-    (header-other c.args.s.now c.args.at (λ e. c.if-tag-eq-PLAIN_TAG.false
-        (tag_is (goal.at.returns-else-tag-eq-COUNTED_TAG c).After-byte_at-tag ∙ e))
-            (λ e. c.if-tag-eq-COUNTED_TAG.false (tag_is (goal.at.returns-else-tag-eq-COUNTED_TAG c).After-byte_at-tag ∙ e)), omega arith)
+returns-else-tag-eq-COUNTED_TAG c = (
+  header-other c.args.s.now c.args.at (λ e. c.if-tag-eq-PLAIN_TAG.false
+      (tag_is (goal.at.returns-else-tag-eq-COUNTED_TAG c).After-byte_at-tag ∙ e))
+      (λ e. c.if-tag-eq-COUNTED_TAG.false (tag_is (goal.at.returns-else-tag-eq-COUNTED_TAG c).After-byte_at-tag ∙ e)),
+  omega arith,
+)

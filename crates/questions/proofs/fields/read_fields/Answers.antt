@@ -94,8 +94,8 @@ overflow_add-at-then-size-gt0 c =
 pub loop-header-init : goal.loop-header-init
 loop-header-init c =
     reading-actions-begins (turn (goal.at.loop-header-init c).After-byte_at)
-        (no-terminal (goal.at.loop-header-init c).Else-byte_at-eq-TERMINAL_TAG) _
-            (sized (goal.at.loop-header-init c).After-header_size-size) c.if-size-gt0.true
+    (no-terminal (goal.at.loop-header-init c).Else-byte_at-eq-TERMINAL_TAG) _
+    (sized (goal.at.loop-header-init c).After-header_size-size) c.if-size-gt0.true
 
 pub action_length-l-requires : goal.action_length-l-requires
 action_length-l-requires c =
@@ -113,7 +113,7 @@ pub loop-header-preserved : goal.loop-header-preserved
 loop-header-preserved c =
     let few : c.loop-header.n < max_actions = omega (arith, c.loop-header.invariant.upto, c.if-n-eq-MAX_ACTIONS.false) in
     action-read c.loop-header.invariant few (action-here (goal.at.loop-header-preserved c).In-loop-header) c.action_length-l.ensures.0
-        (omega arith)
+    (omega arith)
 
 pub counts_right-counts-requires : goal.counts_right-counts-requires
 counts_right-counts-requires c =
@@ -126,8 +126,8 @@ pub states-preserved : goal.states-preserved
 states-preserved c =
     let read =
     decision-read (turn (goal.at.states-preserved c).After-byte_at)
-        (no-terminal (goal.at.states-preserved c).Else-byte_at-eq-TERMINAL_TAG) _
-            (sized (goal.at.states-preserved c).After-header_size-size) c.if-size-gt0.true c.loop-header.invariant
+    (no-terminal (goal.at.states-preserved c).Else-byte_at-eq-TERMINAL_TAG) _
+    (sized (goal.at.states-preserved c).After-header_size-size) c.if-size-gt0.true c.loop-header.invariant
     (λ e. c.loop-header-test.false (c.byte_at-in-loop-header.ensures ∙ e)) in
     rw c.counts_right-counts.ensures read
 
@@ -160,7 +160,7 @@ returns-else-size-gt0 c =
     let none : c.header_size-size.result ≡ 0 = omega (arith, c.if-size-gt0.false) in record {
       in_place_value = sym (header-out (turn (goal.at.returns-else-size-gt0 c).After-byte_at) (no-terminal
           (goal.at.returns-else-size-gt0 c).Else-byte_at-eq-TERMINAL_TAG) _
-              (sized (goal.at.returns-else-size-gt0 c).After-header_size-size) none);
+          (sized (goal.at.returns-else-size-gt0 c).After-header_size-size) none);
       counts_value = λ z. never z;
       table_after = λ z. never z;
     }

@@ -15,8 +15,10 @@ next_action-at-requires c =
 pub loop-k-preserved : goal.loop-k-preserved
 loop-k-preserved c =
     let d = c.requires.decision in
-    let below = c.requires.i_in_bounds in (omega arith,
-        along-next d c.loop-k.invariant.1 (omega (arith, below)) _ c.next_action-at.ensures.0)
+    let below = c.requires.i_in_bounds in (
+      omega arith,
+      along-next d c.loop-k.invariant.1 (omega (arith, below)) _ c.next_action-at.ensures.0,
+    )
 
 pub returns : goal.returns
 returns c =

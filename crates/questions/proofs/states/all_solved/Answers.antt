@@ -31,15 +31,17 @@ solved_at-requires c =
 
 pub loop-j-preserved : goal.loop-j-preserved
 loop-j-preserved c =
-    let yes = sym c.solved_at.ensures ∙ c.if-solved_at.true in
-    (omega arith, c.loop-j.invariant.1 ∙ solved-more _ c.loop-j.j c.successor-t.result (stands
-        (goal.at.loop-j-preserved c).After-successor-t) c.successor-t.ensures.0 _ yes)
+    let yes = sym c.solved_at.ensures ∙ c.if-solved_at.true in (
+      omega arith,
+      c.loop-j.invariant.1 ∙ solved-more _ c.loop-j.j c.successor-t.result (stands
+          (goal.at.loop-j-preserved c).After-successor-t) c.successor-t.ensures.0 _ yes,
+    )
 
 pub returns-else-solved_at : goal.returns-else-solved_at
 returns-else-solved_at c =
     let no = sym c.solved_at.ensures ∙ c.if-solved_at.false in
     solved-not _ c.loop-j.j c.successor-t.result (stands (goal.at.returns-else-solved_at c).After-successor-t) c.successor-t.ensures.0 _
-        no ∙ sym c.loop-j.invariant.1
+    no ∙ sym c.loop-j.invariant.1
 
 pub returns : goal.returns
 returns c =

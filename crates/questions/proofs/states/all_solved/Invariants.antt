@@ -13,7 +13,7 @@ successors_at s o = (action_read (drop o s)).successors
 abbrev pub invariant-loop-j : goal.invariant-loop-j
 invariant-loop-j l =
     (l.j ≤ l.m) × (all_solved (cells_of l.sheet) (successors_at l.sheet l.at) ≡ all_solved (cells_of l.sheet) (drop l.j
-        (successors_at l.sheet l.at)))
+    (successors_at l.sheet l.at)))
 
 abbrev pub decreases-loop-j : goal.decreases-loop-j
 decreases-loop-j l = l.m - l.j

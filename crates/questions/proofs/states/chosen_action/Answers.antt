@@ -21,4 +21,4 @@ action_at-requires c =
 pub returns : goal.returns
 returns c =
     c.action_at.ensures ∙ ap (action_offset (problem_of c.args.sheet.now) c.args.state)
-        (chosen (goal.at.returns c).After-word_to_index-chosen)
+    (chosen (goal.at.returns c).After-word_to_index-chosen)

@@ -21,7 +21,7 @@ cost-is : (c : After-action_cost-cost) → c.action_cost-cost.result ≡
     (action_at (actions_at (problem_of c.args.sheet.now) c.args.state) c.loop-cost.n).cost
 cost-is c =
     let stands : c.loop-cost.n < length (actions_at (problem_of c.args.sheet.now) c.args.state) =
-        (along-stands c.requires c.loop-cost.invariant.0 _ c.action_here.ensures c.loop-cost-test.true) in
+    (along-stands c.requires c.loop-cost.invariant.0 _ c.action_here.ensures c.loop-cost-test.true) in
     c.action_cost-cost.ensures ∙ rw (along-is c.requires c.loop-cost.invariant.0 (stands))
 
 pub loop-cost-init : goal.loop-cost-init
@@ -41,7 +41,7 @@ returns-then-cost-lt1 c =
 pub returns-then-cost-gt-MAX_COST : goal.returns-then-cost-gt-MAX_COST
 returns-then-cost-gt-MAX_COST c =
     let high = cost-high _ (rw (cost-is (goal.at.returns-then-cost-gt-MAX_COST c).After-action_cost-cost) at c.if-cost-lt1.false)
-        (rw (cost-is (goal.at.returns-then-cost-gt-MAX_COST c).After-action_cost-cost) at c.if-cost-gt-MAX_COST.true) in
+    (rw (cost-is (goal.at.returns-then-cost-gt-MAX_COST c).After-action_cost-cost) at c.if-cost-gt-MAX_COST.true) in
     counted_none c.requires c.loop-cost.n (stands (goal.at.returns-then-cost-gt-MAX_COST c).In-loop-cost) high
 
 pub next_action-at-requires : goal.next_action-at-requires
@@ -58,7 +58,7 @@ loop-cost-smaller c = omega (arith, stands (goal.at.loop-cost-smaller c).In-loop
 pub loop-cost-preserved : goal.loop-cost-preserved
 loop-cost-preserved c =
     let fits = cost-fits _ (rw (cost-is (goal.at.loop-cost-preserved c).After-action_cost-cost) at c.if-cost-lt1.false)
-        (rw (cost-is (goal.at.loop-cost-preserved c).After-action_cost-cost) at c.if-cost-gt-MAX_COST.false) in (
+    (rw (cost-is (goal.at.loop-cost-preserved c).After-action_cost-cost) at c.if-cost-gt-MAX_COST.false) in (
       along-next c.requires c.loop-cost.invariant.0 (stands (goal.at.loop-cost-preserved c).In-loop-cost) _ c.next_action-at.ensures.0,
       every_more c.loop-cost.n _ c.loop-cost.invariant.1 fits,
     )

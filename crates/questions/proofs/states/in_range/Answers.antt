@@ -34,7 +34,7 @@ returns-then-value_at-gt-NO_PLAN c =
 pub returns-then-mark-gt-SOLVED : goal.returns-then-mark-gt-SOLVED
 returns-then-mark-gt-SOLVED c =
     mark-out _ _ (low (goal.at.returns-then-mark-gt-SOLVED c).Else-value_at-gt-NO_PLAN)
-        (rw c.mark_at-mark.ensures at c.if-mark-gt-SOLVED.true)
+    (rw c.mark_at-mark.ensures at c.if-mark-gt-SOLVED.true)
 
 pub terminal_cost-requires : goal.terminal_cost-requires
 terminal_cost-requires c = ended c
@@ -42,8 +42,8 @@ terminal_cost-requires c = ended c
 pub returns-then-is_terminal : goal.returns-then-is_terminal
 returns-then-is_terminal c =
     rw c.terminal_cost.ensures (terminal-range _ _ (low (goal.at.returns-then-is_terminal c).Else-value_at-gt-NO_PLAN)
-        (bit (goal.at.returns-then-is_terminal c).Else-mark-gt-SOLVED) _
-            (is-terminal _ (ended (goal.at.returns-then-is_terminal c).Then-is_terminal).tag))
+    (bit (goal.at.returns-then-is_terminal c).Else-mark-gt-SOLVED) _
+    (is-terminal _ (ended (goal.at.returns-then-is_terminal c).Then-is_terminal).tag))
 
 pub count_in_range-n-requires : goal.count_in_range-n-requires
 count_in_range-n-requires c = decided c
@@ -51,8 +51,8 @@ count_in_range-n-requires c = decided c
 pub returns-then-n-eq-TOO_MANY : goal.returns-then-n-eq-TOO_MANY
 returns-then-n-eq-TOO_MANY c =
     count-out _ _ (low (goal.at.returns-then-n-eq-TOO_MANY c).Else-value_at-gt-NO_PLAN)
-        (bit (goal.at.returns-then-n-eq-TOO_MANY c).Else-mark-gt-SOLVED)
-            (few (decided (goal.at.returns-then-n-eq-TOO_MANY c).Else-is_terminal)) _ c.count_in_range-n.ensures c.if-n-eq-TOO_MANY.true
+    (bit (goal.at.returns-then-n-eq-TOO_MANY c).Else-mark-gt-SOLVED)
+    (few (decided (goal.at.returns-then-n-eq-TOO_MANY c).Else-is_terminal)) _ c.count_in_range-n.ensures c.if-n-eq-TOO_MANY.true
 
 pub chosen_at-requires : goal.chosen_at-requires
 chosen_at-requires c = decided (goal.at.chosen_at-requires c).Else-is_terminal
@@ -61,24 +61,24 @@ pub returns-then-chosen-eq0 : goal.returns-then-chosen-eq0
 returns-then-chosen-eq0 c =
     let d = decided (goal.at.returns-then-chosen-eq0 c).Else-is_terminal in
     let ranged = zero-range _ _ (low (goal.at.returns-then-chosen-eq0 c).Else-value_at-gt-NO_PLAN)
-        (bit (goal.at.returns-then-chosen-eq0 c).Else-mark-gt-SOLVED) (few d) _ c.count_in_range-n.ensures in
+    (bit (goal.at.returns-then-chosen-eq0 c).Else-mark-gt-SOLVED) (few d) _ c.count_in_range-n.ensures in
     ranged (is-decision _ d.tag) c.if-n-eq-TOO_MANY.false _ (chosen (goal.at.returns-then-chosen-eq0 c).After-word_to_index-chosen)
-        c.if-chosen-eq0.true
+    c.if-chosen-eq0.true
 
 pub returns-then-mark-eq-SOLVED : goal.returns-then-mark-eq-SOLVED
 returns-then-mark-eq-SOLVED c =
     let d = decided (goal.at.returns-then-mark-eq-SOLVED c).Else-is_terminal in
     let ranged = solved-range _ _ (low (goal.at.returns-then-mark-eq-SOLVED c).Else-value_at-gt-NO_PLAN)
-        (bit (goal.at.returns-then-mark-eq-SOLVED c).Else-mark-gt-SOLVED) (few d) _ c.count_in_range-n.ensures in
+    (bit (goal.at.returns-then-mark-eq-SOLVED c).Else-mark-gt-SOLVED) (few d) _ c.count_in_range-n.ensures in
     ranged (is-decision _ d.tag) c.if-n-eq-TOO_MANY.false _ (chosen (goal.at.returns-then-mark-eq-SOLVED c).After-word_to_index-chosen)
-        c.if-chosen-eq0.false
+    c.if-chosen-eq0.false
     (sym c.mark_at-mark.ensures ∙ c.if-mark-eq-SOLVED.true)
 
 pub returns-else-mark-eq-SOLVED : goal.returns-else-mark-eq-SOLVED
 returns-else-mark-eq-SOLVED c =
     let d = decided (goal.at.returns-else-mark-eq-SOLVED c).Else-is_terminal in
     let ranged = open-range _ _ (low (goal.at.returns-else-mark-eq-SOLVED c).Else-value_at-gt-NO_PLAN)
-        (bit (goal.at.returns-else-mark-eq-SOLVED c).Else-mark-gt-SOLVED) (few d) _ c.count_in_range-n.ensures in
+    (bit (goal.at.returns-else-mark-eq-SOLVED c).Else-mark-gt-SOLVED) (few d) _ c.count_in_range-n.ensures in
     ranged (is-decision _ d.tag) c.if-n-eq-TOO_MANY.false _ (chosen (goal.at.returns-else-mark-eq-SOLVED c).After-word_to_index-chosen)
-        c.if-chosen-eq0.false
+    c.if-chosen-eq0.false
     (λ z. c.if-mark-eq-SOLVED.false (c.mark_at-mark.ensures ∙ z))

@@ -21,17 +21,17 @@ decided c = decision-from c.requires.within _ c.is_terminal.ensures c.if-is_term
 stands : (c : In-loop-at) → c.loop-at.invariant.0 < length (actions_at (problem_of c.args.sheet.now) c.args.state)
 stands c =
     let decided : Decision c.args.sheet.now c.args.table.now c.args.state =
-        (decision-from c.requires.within _ c.is_terminal.ensures c.if-is_terminal.false) in
-        along-stands (decided) c.loop-at.invariant.1 _ c.action_here.ensures c.loop-at-test.true
+    (decision-from c.requires.within _ c.is_terminal.ensures c.if-is_terminal.false) in
+    along-stands (decided) c.loop-at.invariant.1 _ c.action_here.ensures c.loop-at-test.true
 
 -- the test of action k
 tested : (c : After-ascending_at) (b : Bool) → c.ascending_at.result ≡ b →
     order_of (problem_of c.args.sheet.now) c.args.step c.args.low c.args.n c.args.state c.loop-at.invariant.0 ≡ b
 tested c b e =
     let decided : Decision c.args.sheet.now c.args.table.now c.args.state =
-        (decision-from c.requires.within _ c.is_terminal.ensures c.if-is_terminal.false) in
+    (decision-from c.requires.within _ c.is_terminal.ensures c.if-is_terminal.false) in
     let stands : c.loop-at.invariant.0 < length (actions_at (problem_of c.args.sheet.now) c.args.state) =
-        (along-stands (decided) c.loop-at.invariant.1 _ c.action_here.ensures c.loop-at-test.true) in
+    (along-stands (decided) c.loop-at.invariant.1 _ c.action_here.ensures c.loop-at-test.true) in
     rw (along-is (decided) c.loop-at.invariant.1 (stands)) at (sym c.ascending_at.ensures ∙ e)
 
 pub returns-then-is_terminal : goal.returns-then-is_terminal
@@ -54,7 +54,7 @@ ascending_at-requires c = record {
 pub next_action-at-requires : goal.next_action-at-requires
 next_action-at-requires c =
     along-fits (decided (goal.at.next_action-at-requires c).Else-is_terminal) c.loop-at.invariant.1
-        (stands (goal.at.next_action-at-requires c).In-loop-at)
+    (stands (goal.at.next_action-at-requires c).In-loop-at)
 
 pub loop-at-smaller : goal.loop-at-smaller
 loop-at-smaller c = omega (arith, c.next_action-at.ensures)
@@ -71,8 +71,8 @@ loop-at-preserved c =
 pub returns-else-ascending_at : goal.returns-else-ascending_at
 returns-else-ascending_at c =
     stepped-out _ _ _ (order-of (decided (goal.at.returns-else-ascending_at c).Else-is_terminal) _ _ _) c.loop-at.invariant.0
-        (stands (goal.at.returns-else-ascending_at c).In-loop-at)
-            (tested (goal.at.returns-else-ascending_at c).After-ascending_at false c.if-ascending_at.false)
+    (stands (goal.at.returns-else-ascending_at c).In-loop-at)
+    (tested (goal.at.returns-else-ascending_at c).After-ascending_at false c.if-ascending_at.false)
 
 pub returns : goal.returns
 returns c =

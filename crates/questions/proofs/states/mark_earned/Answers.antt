@@ -25,9 +25,9 @@ acted c = ltb-true _ _ (sym c.has_action.ensures ∙ c.if-has_action.true)
 priced : (c : After-chosen_action-at) → Priced c.args.sheet.now c.args.table.now c.chosen_action-at.result
 priced c =
     let decided : Decision c.args.sheet.now c.args.table.now c.args.state =
-        (decision-from c.requires.within _ c.is_terminal.ensures c.if-is_terminal.false) in
+    (decision-from c.requires.within _ c.is_terminal.ensures c.if-is_terminal.false) in
     let acted : 0 < length (actions_at (problem_of c.args.sheet.now) c.args.state) =
-        (ltb-true _ _ (sym c.has_action.ensures ∙ c.if-has_action.true)) in
+    (ltb-true _ _ (sym c.has_action.ensures ∙ c.if-has_action.true)) in
     chosen-priced (decided) (acted) c.requires.chosen_exists _ c.chosen_action-at.ensures c.requires.inside
 
 pub terminal_cost-requires : goal.terminal_cost-requires
@@ -55,15 +55,15 @@ all_solved-requires c = priced (goal.at.all_solved-requires c).After-chosen_acti
 pub returns-then-value-x : goal.returns-then-value-x
 returns-then-value-x c =
     let earned = earned-decision (decided (goal.at.returns-then-value-x c).Else-is_terminal)
-        (acted (goal.at.returns-then-value-x c).Then-has_action) c.requires.chosen_exists _ c.chosen_action-at.ensures
-            c.value_at-value.ensures in
+    (acted (goal.at.returns-then-value-x c).Then-has_action) c.requires.chosen_exists _ c.chosen_action-at.ensures
+    c.value_at-value.ensures in
     earned c.price-x.ensures.0 c.if-value-x.true _ c.all_solved.ensures
 
 pub returns-else-value-x : goal.returns-else-value-x
 returns-else-value-x c =
     let other = unearned (decided (goal.at.returns-else-value-x c).Else-is_terminal)
-        (acted (goal.at.returns-else-value-x c).Then-has_action) c.requires.chosen_exists _ c.chosen_action-at.ensures
-            c.value_at-value.ensures in
+    (acted (goal.at.returns-else-value-x c).Then-has_action) c.requires.chosen_exists _ c.chosen_action-at.ensures
+    c.value_at-value.ensures in
     other c.price-x.ensures.0 c.if-value-x.false
 
 pub returns-else-has_action : goal.returns-else-has_action

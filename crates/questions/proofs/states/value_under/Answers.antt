@@ -23,8 +23,8 @@ decided c = decision-from c.requires.within _ c.is_terminal.ensures c.if-is_term
 stands : (c : In-loop-x) → c.loop-x.invariant.0 < length (actions_at (problem_of c.args.sheet.now) c.args.state)
 stands c =
     let decided : Decision c.args.sheet.now c.args.table.now c.args.state =
-        (decision-from c.requires.within _ c.is_terminal.ensures c.if-is_terminal.false) in
-        along-stands (decided) c.loop-x.invariant.1 _ c.action_here.ensures c.loop-x-test.true
+    (decision-from c.requires.within _ c.is_terminal.ensures c.if-is_terminal.false) in
+    along-stands (decided) c.loop-x.invariant.1 _ c.action_here.ensures c.loop-x-test.true
 
 pub terminal_cost-requires : goal.terminal_cost-requires
 terminal_cost-requires c = ended c
@@ -48,13 +48,13 @@ pub returns-then-x-value : goal.returns-then-x-value
 returns-then-x-value c =
     let d = decided (goal.at.returns-then-x-value c).Else-is_terminal in
     let over = price-over d c.loop-x.invariant.1 (stands (goal.at.returns-then-x-value c).In-loop-x) c.value_at-value.ensures
-        c.price-x.ensures.0 c.if-x-value.true in
+    c.price-x.ensures.0 c.if-x-value.true in
     stepped-out _ _ _ (under_of d) c.loop-x.invariant.0 (stands (goal.at.returns-then-x-value c).In-loop-x) over
 
 pub next_action-at-requires : goal.next_action-at-requires
 next_action-at-requires c =
     along-fits (decided (goal.at.next_action-at-requires c).Else-is_terminal) c.loop-x.invariant.1
-        (stands (goal.at.next_action-at-requires c).In-loop-x)
+    (stands (goal.at.next_action-at-requires c).In-loop-x)
 
 pub loop-x-smaller : goal.loop-x-smaller
 loop-x-smaller c = omega (arith, c.next_action-at.ensures)
@@ -63,9 +63,11 @@ pub loop-x-preserved : goal.loop-x-preserved
 loop-x-preserved c =
     let d = decided (goal.at.loop-x-preserved c).Else-is_terminal in
     let under = price-under d c.loop-x.invariant.1 (stands (goal.at.loop-x-preserved c).In-loop-x) c.value_at-value.ensures
-        c.price-x.ensures.0 c.if-x-value.false in
-    (_, along-next d c.loop-x.invariant.1 (stands (goal.at.loop-x-preserved c).In-loop-x) _ c.next_action-at.ensures.0,
-        every_more c.loop-x.invariant.0 _ c.loop-x.invariant.2 under)
+    c.price-x.ensures.0 c.if-x-value.false in (
+      _,
+      along-next d c.loop-x.invariant.1 (stands (goal.at.loop-x-preserved c).In-loop-x) _ c.next_action-at.ensures.0,
+      every_more c.loop-x.invariant.0 _ c.loop-x.invariant.2 under,
+    )
 
 pub returns : goal.returns
 returns c =

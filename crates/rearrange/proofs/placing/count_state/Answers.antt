@@ -19,7 +19,7 @@ decides c = decision-from c.requires.within _ c.is_terminal.ensures c.if-is_term
 stands : (c : In-loop-waits) → c.loop-waits.k < length (actions_at (problem_of c.args.sheet.now) c.args.state)
 stands c =
     let decides : Decision c.args.sheet.now c.args.table.now c.args.state =
-        (decision-from c.requires.within _ c.is_terminal.ensures c.if-is_terminal.false) in
+    (decision-from c.requires.within _ c.is_terminal.ensures c.if-is_terminal.false) in
     along-stands (decides) c.loop-waits.invariant.0 _ c.action_here.ensures c.loop-waits-test.true
 
 pub is_terminal-requires : goal.is_terminal-requires
@@ -50,7 +50,7 @@ count_successors-requires c =
 pub next_action-at-requires : goal.next_action-at-requires
 next_action-at-requires c =
     along-fits (decides (goal.at.next_action-at-requires c).Else-is_terminal) c.loop-waits.invariant.0
-        (stands (goal.at.next_action-at-requires c).In-loop-waits)
+    (stands (goal.at.next_action-at-requires c).In-loop-waits)
 
 pub overflow_add-k : goal.overflow_add-k
 overflow_add-k c =
@@ -72,4 +72,4 @@ pub returns : goal.returns
 returns c =
     let (along, tally) = c.loop-waits.invariant in
     tally-end _ _ _ _ tally (along-ends (decides (goal.at.returns c).Else-is_terminal) along _ c.action_here.ensures
-        c.loop-waits-test.false)
+    c.loop-waits-test.false)

@@ -19,7 +19,7 @@ decides c = decision-from c.requires.within _ c.is_terminal.ensures c.if-is_term
 stands : (c : In-loop-waits) → c.loop-waits.k < length (actions_at (problem_of c.args.sheet.now) c.args.state)
 stands c =
     let decides : Decision c.args.sheet.now c.args.table.now c.args.state =
-        (decision-from c.requires.within _ c.is_terminal.ensures c.if-is_terminal.false) in
+    (decision-from c.requires.within _ c.is_terminal.ensures c.if-is_terminal.false) in
     along-stands (decides) c.loop-waits.invariant.0 _ c.action_here.ensures c.loop-waits-test.true
 
 pub is_terminal-requires : goal.is_terminal-requires
@@ -36,16 +36,17 @@ pub first_action-at-requires : goal.first_action-at-requires
 first_action-at-requires c = decides c
 
 pub loop-waits-init : goal.loop-waits-init
-loop-waits-init c =
-    (along-begins (decides (goal.at.loop-waits-init c).Else-is_terminal) _ c.first_action-at.ensures.0,
-        releasing-start _ _ _ c.requires.by_index_2)
+loop-waits-init c = (
+  along-begins (decides (goal.at.loop-waits-init c).Else-is_terminal) _ c.first_action-at.ensures.0,
+  releasing-start _ _ _ c.requires.by_index_2,
+)
 
 pub release_successors-least-requires : goal.release_successors-least-requires
 release_successors-least-requires c =
     let d = decides (goal.at.release_successors-least-requires c).Else-is_terminal in
     let (along, releasing) = c.loop-waits.invariant in
     let enough = releasing-enough _ _ _ _ _ _ releasing _ (stands (goal.at.release_successors-least-requires c).In-loop-waits)
-        (along-is d along (stands (goal.at.release_successors-least-requires c).In-loop-waits)) c.requires.by_index in record {
+    (along-is d along (stands (goal.at.release_successors-least-requires c).In-loop-waits)) c.requires.by_index in record {
       sheet_value = along-fits d along (stands (goal.at.release_successors-least-requires c).In-loop-waits);
       by_index = enough;
       by_index_2 = releasing.waits;
@@ -54,7 +55,7 @@ release_successors-least-requires c =
 pub next_action-at-requires : goal.next_action-at-requires
 next_action-at-requires c =
     along-fits (decides (goal.at.next_action-at-requires c).Else-is_terminal) c.loop-waits.invariant.0
-        (stands (goal.at.next_action-at-requires c).In-loop-waits)
+    (stands (goal.at.next_action-at-requires c).In-loop-waits)
 
 pub overflow_add-k : goal.overflow_add-k
 overflow_add-k c =
@@ -69,9 +70,10 @@ loop-waits-preserved c =
     let (along, releasing) = c.loop-waits.invariant in
     let is = along-is d along (stands (goal.at.loop-waits-preserved c).In-loop-waits) in
     let less = c.release_successors-least.ensures.waits_after in
-    let lows = c.release_successors-least.ensures.upper_bound in
-    (along-next d along (stands (goal.at.loop-waits-preserved c).In-loop-waits) _ c.next_action-at.ensures.0,
-        releasing-next _ _ _ _ _ _ releasing _ (stands (goal.at.loop-waits-preserved c).In-loop-waits) is _ _ less lows)
+    let lows = c.release_successors-least.ensures.upper_bound in (
+      along-next d along (stands (goal.at.loop-waits-preserved c).In-loop-waits) _ c.next_action-at.ensures.0,
+      releasing-next _ _ _ _ _ _ releasing _ (stands (goal.at.loop-waits-preserved c).In-loop-waits) is _ _ less lows,
+    )
 
 pub returns : goal.returns
 returns c =

@@ -48,8 +48,13 @@ value_at-requires c =
 
 pub overflow_add-total : goal.overflow_add-total
 overflow_add-total c =
-    omega (arith, c.word_to_long-x.ensures.1, c.loop-j.invariant.1.summed, c.loop-j.invariant.0,
-        inside (goal.at.overflow_add-total c).Start)
+    omega (
+      arith,
+      c.word_to_long-x.ensures.1,
+      c.loop-j.invariant.1.summed,
+      c.loop-j.invariant.0,
+      inside (goal.at.overflow_add-total c).Start,
+    )
 
 pub loop-j-preserved : goal.loop-j-preserved
 loop-j-preserved c = (omega (arith, c.if-end-at.false, c.next_action-end.ensures.0), turned (goal.at.loop-j-preserved c).After-larger-most)
@@ -63,7 +68,7 @@ sum_fits : (c : After-of_kind) → (c.larger-most.result ≤ c.of_kind.result) �
 sum_fits c =
     let inside : (length (successors_at c.args.sheet.now c.args.at) ≤ max_successors) ×
     (c.args.at + 7 + 2 * length (successors_at c.args.sheet.now c.args.at) ≤ length c.args.sheet.now) =
-        (action-inside c.args.sheet.now c.args.at c.requires.fits) in
+    (action-inside c.args.sheet.now c.args.at c.requires.fits) in
     let turned : SumsAt c.args.sheet.now c.args.at (c.loop-j.total + c.word_to_long-x.result) c.larger-most.result
     c.dearer-dearest.result (c.loop-j.j + 1) = (let value = c.word_to_long-x.ensures.0 ∙ c.value_at.ensures in
     let (more, sums) = c.loop-j.invariant in
@@ -94,6 +99,6 @@ returns c =
     let last : c.loop-j.j + 1 ≡ length (successors_at c.args.sheet.now c.args.at) =
     omega (arith, c.loop-j.invariant.0, c.next_action-end.ensures.0, c.if-end-at.true) in
     let sums = sums-price (turned (goal.at.returns c).After-larger-most) (problem_of c.args.sheet.now).kind
-        (action_read (drop c.args.at c.args.sheet.now)) refl last in
+    (action_read (drop c.args.at c.args.sheet.now)) refl last in
     let paid = ap (written_price c.larger-most.result) (price-of c) in
     (c.written.ensures.0 ∙ (paid ∙ sym sums), c.written.ensures.1, sums-dearest (turned (goal.at.returns c).After-larger-most) last)
