@@ -22,7 +22,8 @@ use Rattle.questions.specs.declared.Verdict.{Verdict}
 use Rattle.questions.specs.declared.Verdict.TheVariants.{Accepted, Refused}
 use Rattle.order.specs.Order.{order}
 use Rattle.order.specs.Asking.{question1_lent, draft_questions, back_questions, rearrange_refusal, restore_refusal}
-use Rattle.order.specs.Asking.{restored_bytes, output_given, rearranged_output, rearranged_list, rearranged_table, restored_output, restored_table}
+use Rattle.order.specs.Asking.{restored_bytes, output_given, rearranged_output, rearranged_list}
+use Rattle.order.specs.Asking.{rearranged_table, restored_output, restored_table}
 use Rattle.order.proofs.Sheets.{unrefused-draft}
 use Rattle.order.proofs.Unread.{back-same}
 use Rattle.rearrange.proofs.Lending.{short-table, short-output, short-list, room-enough}
@@ -139,7 +140,8 @@ module _ (s t o l : List ℕ) where
   all-long a b c = sym (room-enough s (entries t) (length o) (entries l) (omega (arith, a)) b (omega (arith, c)))
 
   pub rearrange-no-room : question1_lent s (entries t) (length o) (entries l) ≡ false → HostedRearrange s t o l 1 t o l
-  unfolding rearrange_refusal first_no host_rearrange host_rearrange_table host_table_given host_rearrange_output host_rearrange_list on_refusal
+  unfolding rearrange_refusal first_no host_rearrange host_rearrange_table host_table_given host_rearrange_output host_rearrange_list
+      on_refusal
   rearrange-no-room e = rw e (refl, (refl, (refl, refl)))
 
   pub restore-no-room : question1_lent s (entries t) (length o) (entries l) ≡ false → HostedRestore s t l o 1 t o
@@ -182,7 +184,8 @@ module _ {index numbers₀ s t o l : List ℕ} (lent : Lent index numbers₀ s t
   -- the stages' entries
   taken : states (problem_of s) ≤ max_states → take (states (problem_of s)) numbers ≡ take (states (problem_of s)) (host_numbers l)
   taken few =
-      ap (take (states (problem_of s))) got ∙ numbers-take (states (problem_of s)) (length numbers₀) l (omega (arith, few, lent.list_room)) ∙
+      ap (take (states (problem_of s))) got ∙
+      numbers-take (states (problem_of s)) (length numbers₀) l (omega (arith, few, lent.list_room)) ∙
       sym (numbers-take (states (problem_of s)) (entries l) l (omega (arith, few, h.list_room, h.list_fits)))
 
   back-refusal : back ≡ back_refusal s t l o

@@ -217,7 +217,8 @@ nodes-written (suc n) r byte good = by-tag (eqb (tag r) terminal_tag) refl (node
         rw e (written-cons (terminal-same r byte (eqb-true _ _ e) f.0) tt refl (ih (drop 12 r) (bytes_drop 12 r byte) f.1))
     by-tag false e ih =
         let f = also-true _ _ (rw e at good) in
-        let past = bytes_drop (actions_long max_actions (past_header r)) (past_header r) (bytes_drop (decision_size (form_read r)) r byte) in
+        let past =
+        bytes_drop (actions_long max_actions (past_header r)) (past_header r) (bytes_drop (decision_size (form_read r)) r byte) in
         let others = ih (past_actions max_actions (past_header r)) past f.1 in
         rw e (written-cons (decision-same r byte f.0) (decision-shaped r byte f.0) tt others)
 

@@ -73,7 +73,8 @@ unfolding form_bytes count_is
 count_small plain n le h = tt
 count_small (counted m) n le h = (omega (arith, eqb-true m n h), tt)
 
-small-node : (n : Node) (c : Cell) → NodeShaped n → count_right n ≡ true → costs_in_range n ≡ true → cell_in_range n c ≡ true → ChosenShaped n
+small-node : (n : Node) (c : Cell) → NodeShaped n → count_right n ≡ true → costs_in_range n ≡ true → cell_in_range n c ≡ true →
+    ChosenShaped n
     c →
     ((form : Form) (acts : List Action) (i t : ℕ) → n ≡ decision form acts → t ∈ (action_at acts i).successors → t < 65536) →
     AllBytes (node_bytes n c)

@@ -27,7 +27,8 @@ run_only (goes e r) (goes e' r') = let (same, costs) = run_only r r' in (cc (e, 
 
 module _ (p : Problem) (cells : List Cell) (wf : WellFormed p) (con : Consistent p cells) where
   -- what a decision's line names is the dearest successor of its chosen action
-  pub names-dearest : (s : ℕ) {form : Form} (acts : List Action) → node_at p s ≡ decision form acts → (cell_of cells s).chosen < length acts →
+  pub names-dearest : (s : ℕ) {form : Form} (acts : List Action) → node_at p s ≡ decision form acts →
+      (cell_of cells s).chosen < length acts →
       Dearest (value_of cells) (action_at acts (cell_of cells s).chosen).successors (dearest_chosen p cells s)
   names-dearest s acts e exists = rw e (action-dearest p wf s (cell_of cells s).chosen acts e exists (value_of cells))
 

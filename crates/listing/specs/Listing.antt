@@ -67,7 +67,8 @@ listed t (u ∷ us) = eqb t u || listed t us
 -- S2.1: does the plan reach t from the start, by the checks chosen at stages below n?
 unfoldable pub reached_below : Problem → List Cell → ℕ → ℕ → Bool
 reached_below p cells zero t = eqb t p.start
-reached_below p cells (suc n) t = reached_below p cells n t || also (reached_below p cells n n) (λ _. listed t (chosen_successors p cells n))
+reached_below p cells (suc n) t =
+    reached_below p cells n t || also (reached_below p cells n n) (λ _. listed t (chosen_successors p cells n))
 
 -- does the plan reach t? findings are above their own junction, so the stages below t decide
 abbrev pub reached : Problem → List Cell → ℕ → Bool

@@ -61,7 +61,8 @@ computing_then = tt
 
 -- questions 7 to 9, and refusals
 unfoldable computing_marks : Unit {0}
-unfolding value_under question7 all_solved passed_by mark_earned question8 question9 first_no sheet_refusal_under refusal_under accepted_under
+unfolding value_under question7 all_solved passed_by mark_earned question8 question9 first_no sheet_refusal_under refusal_under
+    accepted_under
 computing_marks = tt
 
 -- all questions

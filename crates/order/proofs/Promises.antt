@@ -135,7 +135,8 @@ module _ (s : List ℕ) (byte : Bytes s) (d : Draft s) where
   }
 
   calls_back : (calls : List Call) → Calls (rearranged_bytes s) calls → (rest : List ℕ) →
-      restored_bytes (left (rearranged_bytes s) calls) (from ++ rest) ≡ write p (moved_cells to (cells_of (left (rearranged_bytes s) calls)))
+      restored_bytes (left (rearranged_bytes s) calls) (from ++ rest) ≡
+      write p (moved_cells to (cells_of (left (rearranged_bytes s) calls)))
   calls_back calls made rest =
       let b = left (rearranged_bytes s) calls in
       let kept = new-demand s byte d calls made in

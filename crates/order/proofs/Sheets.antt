@@ -193,7 +193,8 @@ module _ (s : List ℕ) (byte : Bytes s) (d : Draft s) where
       rw (new-problem, moved-states head_tag p from to h, take_at from rest (states p) d.full)
       (true-every (states p) _ (λ t l. times-among t from (all_placed p d.full t l)))
 
-  pub back-unrefused : (rest : List ℕ) (entries output : ℕ) → max_states ≤ entries → length s ≤ output → max_states ≤ length (from ++ rest) →
+  pub back-unrefused : (rest : List ℕ) (entries output : ℕ) → max_states ≤ entries → length s ≤ output →
+      max_states ≤ length (from ++ rest) →
       restore_refusal (rearranged_bytes s) entries (from ++ rest) output ≡ 0
   unfolding restore_refusal question1_lent
   back-unrefused rest entries output table room list =

@@ -65,7 +65,8 @@ module _ (p : Problem) (from to : List ℕ) (h : Perm (states p) from to) (still
   unfolding moved_cells
   cells-still cells count = ext_get_or (cell 0 0 0) _ _ (length-map from _ ∙ (h.from_length ∙ sym count)) each
     where
-      each : (i : ℕ) → i < length (map (λ s. cell_of cells s) from) → get_or (map (λ s. cell_of cells s) from) i (cell 0 0 0) ≡ cell_of cells i
+      each : (i : ℕ) → i < length (map (λ s. cell_of cells s) from) → get_or (map (λ s. cell_of cells s) from) i (cell 0 0 0) ≡
+          cell_of cells i
       each i l =
           let il : i < states p = omega (arith, length-map from (λ s. cell_of cells s), h.from_length) in
           get_d_map (λ s. cell_of cells s) from i 0 (cell 0 0 0) (omega (arith, h.from_length)) ∙ ap (cell_of cells) (still i il)

@@ -14,7 +14,8 @@ use Rattle.layout.proofs.Index.{states-within}
 use Rattle.order.specs.Asking.{question11_back, back_questions}
 
 -- Two lists that begin alike, as far as there are stages, get the same answers.
-pub back-same : (s xs ys : List ℕ) → (states (problem_of s) ≤ max_states → take (states (problem_of s)) xs ≡ take (states (problem_of s)) ys) →
+pub back-same : (s xs ys : List ℕ) →
+    (states (problem_of s) ≤ max_states → take (states (problem_of s)) xs ≡ take (states (problem_of s)) ys) →
     first_no (back_questions s xs) ≡ first_no (back_questions s ys)
 unfolding question11_back
 back-same s xs ys same = go (first_no (field_questions head_tag max_states s)) refl

@@ -6,7 +6,8 @@ use Rattle.model.specs.Limits.{max_states}
 use Rattle.model.specs.Problem.{Problem, Cell, states}
 use Rattle.model.specs.Format.{head_tag, draft_tag, write}
 use Rattle.model.specs.Read.{problem_of, cells_of}
-use Rattle.model.specs.Questions.{question6, question6_draft, Question, question, finding_questions, mark_questions, field_questions, first_no}
+use Rattle.model.specs.Questions.{question6, question6_draft, Question, question, finding_questions}
+use Rattle.model.specs.Questions.{mark_questions, field_questions, first_no}
 use Rattle.model.specs.Report.{on_refusal, table_given}
 use Rattle.order.specs.Order.{order, lists}
 use Rattle.order.specs.Moved.{rearranged, rearranged_cells, restored, restored_cells}

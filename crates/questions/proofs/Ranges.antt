@@ -109,7 +109,8 @@ module _ (n : Node) (c : Cell) where
 
 -- question 8 of a solved state: a terminal, and a decision whose chosen action stands at o
 pub earned-terminal : {s t : List ℕ} {i : ℕ} → Terminal s t i →
-    eqb (value_of (cells_of s) i) (terminal_cost (node_at (problem_of s) i)) ≡ mark_earned (problem_of s) (cells_of s) i (node_at (problem_of s) i)
+    eqb (value_of (cells_of s) i) (terminal_cost (node_at (problem_of s) i)) ≡
+    mark_earned (problem_of s) (cells_of s) i (node_at (problem_of s) i)
 unfolding mark_earned terminal_cost
 earned-terminal {s} {t} {i} d = rw (is-terminal (node_at (problem_of s) i) d.tag)
 

@@ -13,7 +13,8 @@ use lib.ListN.{length, get_or, set, drop, take, replicate, length-drop, length-s
 use lib.Seq.{take_all, drop-drop, get_or-drop, take-suc-set, drop-set-lt}
 use Rattle.model.proofs.TestLaws.{also-true, also-yes, also-also, all_true, all_one}
 use Rattle.model.specs.Tests.{fork, also, all}
-use Rattle.model.specs.Format.{be16, plain_tag, counted_tag, decision_tag, decision_length, decision_size, actions_size, node_size, offsets_from}
+use Rattle.model.specs.Format.{be16, plain_tag, counted_tag, decision_tag, decision_length}
+use Rattle.model.specs.Format.{decision_size, actions_size, node_size, offsets_from}
 use Rattle.model.specs.Format.{min_action_length, max_action_length}
 use Rattle.model.specs.Read.{action_fits, actions_good, actions_read, actions_long}
 use Rattle.model.specs.Read.{field_fits, form_read, header_fits, decision_fits, nodes_good, nodes_read}

@@ -83,7 +83,8 @@ module _ (p : Problem) (s : ℕ) (tag : tag_of (node_at p s) ≡ terminal_tag �
     unfolding mark_earned
     earned-none none = ap (mark_earned p cells s) node ∙ go (form_of (node_at p s)) (actions_at p s) none
       where
-        go : (form : Form) (acts : List Action) → length acts ≤ 0 → mark_earned p cells s (decision form acts) ≡ eqb (value_of cells s) no_plan
+        go : (form : Form) (acts : List Action) → length acts ≤ 0 → mark_earned p cells s (decision form acts) ≡
+            eqb (value_of cells s) no_plan
         go form [] none = refl
         go form (a ∷ more) none = absurd (omega arith)
 
@@ -215,7 +216,8 @@ module _ {s t : List ℕ} {i : ℕ} (w : Within s t i) (b : Bool) (e : b ≡ eqb
 
 -- question 7 at a terminal, and of one action
 pub under-terminal : {s t : List ℕ} {i : ℕ} → Terminal s t i →
-    leb (value_of (cells_of s) i) (terminal_cost (node_at (problem_of s) i)) ≡ value_under (problem_of s) (cells_of s) i (node_at (problem_of s) i)
+    leb (value_of (cells_of s) i) (terminal_cost (node_at (problem_of s) i)) ≡
+    value_under (problem_of s) (cells_of s) i (node_at (problem_of s) i)
 unfolding value_under terminal_cost
 under-terminal {s} {t} {i} d = rw (is-terminal (node_at (problem_of s) i) d.tag)
 
@@ -252,7 +254,8 @@ whole_apart s ne = apart_of (problem_of s).kind ∙ sym (of-whole s 1 0 ne)
 -- questions 6 and 7 of a decision
 module _ {s t : List ℕ} {i : ℕ} (d : Decision s t i) where
   pub order-of : (e low n : ℕ) →
-      successors_in_order e low n (node_at (problem_of s) i) ≡ every (length (actions_at (problem_of s) i)) (order_of (problem_of s) e low n i)
+      successors_in_order e low n (node_at (problem_of s) i) ≡
+      every (length (actions_at (problem_of s) i)) (order_of (problem_of s) e low n i)
   order-of e low n = order_is (problem_of s) i d.tag e low n
 
   pub under_of : value_under (problem_of s) (cells_of s) i (node_at (problem_of s) i) ≡

@@ -15,7 +15,8 @@ use Rattle.model.specs.Report.{on_refusal, refused_table, index_table}
 use Rattle.model.proofs.QuestionLaws.{first-from}
 use Rattle.model.proofs.TestLaws.{all_true}
 use Rattle.order.specs.Asking.{question1_lent, draft_questions, back_questions, rearrange_refusal, restore_refusal}
-use Rattle.order.specs.Asking.{rearranged_bytes, restored_bytes, output_given, list_given, rearranged_output, rearranged_list, rearranged_table}
+use Rattle.order.specs.Asking.{rearranged_bytes, restored_bytes, output_given, list_given}
+use Rattle.order.specs.Asking.{rearranged_output, rearranged_list, rearranged_table}
 use Rattle.order.specs.Asking.{restored_output, restored_table}
 use Rattle.questions.specs.Table.{indexed_before}
 use Rattle.questions.specs.Verdicts.{verdict}
@@ -124,7 +125,8 @@ module _ (s t l o : List ℕ) where
 
     pub restore-no : (r ≡ 0 → ⊥) → (t' : List ℕ) {t'' o' : List ℕ} → length t' ≡ length t → t'' ≡ cleared t' →
         o' ≡ output_given r (restored_bytes s l) o →
-        (Refused r ≡ verdict (restore_refusal s (length t) l (length o))) × ((o' ≡ restored_output s t l o) × (t'' ≡ restored_table s t l o))
+        (Refused r ≡ verdict (restore_refusal s (length t) l (length o))) ×
+        ((o' ≡ restored_output s t l o) × (t'' ≡ restored_table s t l o))
     unfolding restored_output restored_table
     restore-no some t' {t''} {o'} long et eo =
         rw refusal-back (

@@ -18,7 +18,8 @@ use Rattle.rearrange.specs.Waits.{found, found_at, lessened}
 use Rattle.sheet.proofs.Laws.{is-terminal}
 use Rattle.sheet.specs.Sheet.{Terminal}
 
-pub one_further : (ws : List ℕ) (t : ℕ) → ((u : ℕ) → u < t → 0 < get_or ws u 0) → 0 < get_or ws t 0 → (u : ℕ) → u < t + 1 → 0 < get_or ws u 0
+pub one_further : (ws : List ℕ) (t : ℕ) → ((u : ℕ) → u < t → 0 < get_or ws u 0) → 0 < get_or ws t 0 → (u : ℕ) → u < t + 1 →
+    0 < get_or ws u 0
 one_further ws t h g u l = go (same_or_not u t)
   where
     go : (u ≡ t) ⊎ (u ≢ t) → 0 < get_or ws u 0
@@ -136,7 +137,8 @@ pub record Releasing (ws : List ℕ) (acts : List Action) (low : ℕ) (ws' : Lis
   pub lower : least ≤ low
   pub waits : (u : ℕ) → u < least → 0 < get_or ws' u 0
 
-pub releasing-start : (ws : List ℕ) (acts : List Action) (low : ℕ) → ((u : ℕ) → u < low → 0 < get_or ws u 0) → Releasing ws acts low ws low 0
+pub releasing-start : (ws : List ℕ) (acts : List Action) (low : ℕ) → ((u : ℕ) → u < low → 0 < get_or ws u 0) →
+    Releasing ws acts low ws low 0
 unfolding found lessened
 releasing-start ws acts low h = record { is = refl; lower = omega arith; waits = h }
 

@@ -116,7 +116,8 @@ module _ {s t : List ℕ} {i : ℕ} (d : Decision s t i) where
   checks-shaped = (subst NodeShaped (is-decision (node_at (problem_of s) i) d.tag)
       (node-shaped (problem_of s).nodes d.within.sheet.shaped.nodes i)).1
 
-  pub checks-below : Inside (problem_of s) → (n k : ℕ) (a : Action) → states (problem_of s) ≤ n → k < length (actions_at (problem_of s) i) → a
+  pub checks-below : Inside (problem_of s) → (n k : ℕ) (a : Action) → states (problem_of s) ≤ n →
+      k < length (actions_at (problem_of s) i) → a
       ≡ action_at (actions_at (problem_of s) i) k →
       (j : ℕ) → j < length a.successors → get_or a.successors j 0 < n
   checks-below any n k a wide lk e j lj =

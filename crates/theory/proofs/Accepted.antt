@@ -14,7 +14,8 @@ use Rattle.model.specs.Tests.{fork}
 use Rattle.model.specs.Problem.{Action, action, Form, Node, terminal, decision, Problem, Cell, cell, states, node_at, action_at}
 use Rattle.model.specs.Problem.{cell_of, solved, ◌∈◌, here, there}
 use Rattle.model.specs.Limits.{ceiling, no_plan, max_cost}
-use Rattle.model.specs.Questions.{costs_in_range, chosen_in_range, cell_in_range, question5, apart, ascending, successors_in_order, question6}
+use Rattle.model.specs.Questions.{costs_in_range, chosen_in_range, cell_in_range, question5, apart}
+use Rattle.model.specs.Questions.{ascending, successors_in_order, question6}
 use Rattle.model.specs.Questions.{value_under, question7, all_solved, passed_by, mark_earned, question8}
 use Rattle.layout.proofs.Shapes.{node-shaped, action-shaped, ascending-first, ascending-in, is_state}
 use Rattle.layout.specs.Shape.{NodeShaped, ChosenShaped}

@@ -200,7 +200,8 @@ module _ (p : Problem) (budget s x : ℕ) (w : Search) (ready : Ready p budget w
     pub raise-leads : x ≡ bellman_cut p s (value_at w) → w.raises < budget → Leads p budget s w (raised s x w)
     raise-leads is room =
         put-leads p budget s (suc w.raises) w c ready state is_open (omega arith) raise-sound (omega arith) (omega arith)
-        (omega (arith, sum-strict (value_at w) (value_at (raised s x w)) rises (states p) s state (omega (arith, value-of raised-cell, up))))
+        (let fewer = sum-strict (value_at w) (value_at (raised s x w)) rises (states p) s state (omega (arith, value-of raised-cell, up)) in
+        omega (arith, fewer))
         (λ e. absurd (omega arith)) (raise s x state is_open is up nothing)
 
 -- a state that may be marked, with action i chosen

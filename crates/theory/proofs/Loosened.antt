@@ -9,7 +9,8 @@ use lib.ListN.{length}
 use Rattle.model.proofs.TestLaws.{every_true, true-every}
 use Rattle.model.specs.Problem.{Kind, worst, whole, Node, terminal, decision, Problem}
 use Rattle.model.specs.Read.{problem_of}
-use Rattle.model.specs.Questions.{apart, ascending, successors_in_order, in_order, question6, sheet_questions_under, first_no, refusal_under}
+use Rattle.model.specs.Questions.{apart, ascending, successors_in_order, in_order, question6}
+use Rattle.model.specs.Questions.{sheet_questions_under, first_no, refusal_under}
 use Rattle.model.specs.Questions.{accepted_under}
 use Rattle.model.specs.Earlier.{instead, strict_order, strict_refusal, strictly_accepted}
 use Rattle.model.specs.Report.{answer_under, bytes_under, table_under}

@@ -14,7 +14,8 @@ use Rattle.model.specs.Limits.{ceiling}
 use Rattle.model.specs.QValue.{join}
 use Rattle.model.specs.Policy.{Checked}
 use Rattle.model.specs.Earlier.{joined_values, number_price}
-use Rattle.model.specs.Ldfs.{Search, Visit, success, failure, halt, value_at, solved_at, price_by, price_at, on_test, on_visit, marked, update}
+use Rattle.model.specs.Ldfs.{Search, Visit, success, failure, halt, value_at, solved_at}
+use Rattle.model.specs.Ldfs.{price_by, price_at, on_test, on_visit, marked, update}
 use Rattle.model.specs.Ldfs.{if_dear_by, visit_all_by, try_one_by, try_all_by, visit_open_by, visit_by, on_pass, passes_by, work_by}
 use Rattle.model.specs.Ldfs.{if_dear, visit_all, try_one, try_all, visit_open, visit, passes, work}
 use Rattle.layout.proofs.Prices.{price-number}

@@ -26,7 +26,8 @@ closed-next : {p : Problem} {π : Policy} {s : ℕ} {form : Form} (acts : List A
 closed-next acts i t closed e c m u form' acts' r = closed u form' acts' (onward e c m r)
 
 -- a junction that costs some number is covered, by an action that exists and costs that
-covered : (k : Kind) (v : ℕ → Cost) (form : Form) (acts : List Action) (o : Option ℕ) (x : ℕ) → cost_at k v (decision form acts) o ≡ some x →
+covered : (k : Kind) (v : ℕ → Cost) (form : Form) (acts : List Action) (o : Option ℕ) (x : ℕ) →
+    cost_at k v (decision form acts) o ≡ some x →
     (i : ℕ) × (o ≡ some i) × (i < length acts) × (q_full k v (action_at acts i) ≡ some x)
 unfolding cost_at
 covered k v form acts none x h = not_some refl h

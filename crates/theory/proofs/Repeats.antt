@@ -82,7 +82,8 @@ module _ (k : Kind) (is : k ≡ whole) (a : Action) (n t : ℕ) (often : 0 < n) 
 
 -- Action i of decision s of a whole problem lists the state t n times and no other.
 module _ (p : Problem) (wf : WellFormed p) (is : p.kind ≡ whole) (s i n t : ℕ) {form : Form}
-    (acts : List Action) (node : node_at p s ≡ decision form acts) (often : 0 < n) (only : (action_at acts i).successors ≡ replicate n t) where
+    (acts : List Action) (node : node_at p s ≡ decision form acts) (often : 0 < n)
+    (only : (action_at acts i).successors ≡ replicate n t) where
   -- a policy that takes it pays for each
   pub policy-pays : (π : Policy) → π s ≡ some i → i < length acts →
       policy_cost p π s ≡ both ◌+◌ (some (action_at acts i).cost) (times n (policy_cost p π t))

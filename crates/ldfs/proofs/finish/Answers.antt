@@ -17,7 +17,7 @@ left_at : (c : After-work-w) → Within c.work-w.new.sheet c.args.table.now c.wo
 left_at c =
     let start-at : c.word_to_index-start.result ≡ (problem_of c.args.sheet.now).start =
     (c.word_to_index-start.ensures.0 ∙ c.get16.ensures.0 ∙ start_is c.args.sheet.now) in
-    within c.work-w.ensures.sheet _ (rw (start-at) c.requires.within.below)
+    within c.work-w.ensures.sheet _ (rw start-at c.requires.within.below)
 
 pub get16-requires : goal.get16-requires
 get16-requires c = omega (arith, head-room c.requires.within)

@@ -11,7 +11,7 @@ in_place c =
     let bytes : Bytes c.args.sheet.now = (λ i. (c.type_inv.sheet i).fits) in
     let is = c.fields_no-no.ensures.value in
     let table = c.fields_no-no.ensures.table_after in
-    fielded head_tag _ _ _ _ c.requires.1 (bytes) (sym is ∙ c.if-no-eq0.true) (table c.if-no-eq0.true)
+    fielded head_tag _ _ _ _ c.requires.1 bytes (sym is ∙ c.if-no-eq0.true) (table c.if-no-eq0.true)
 
 pub count_of-n-requires : goal.count_of-n-requires
 count_of-n-requires c = (in_place c).long

@@ -20,7 +20,7 @@ inside : (c : Then-no-eq0) → Inside (problem_of c.args.sheet.now)
 unfolding findings_by
 inside c =
     let yes-6 : question6_draft (problem_of c.args.sheet.now) ≡ true =
-    ((yes-5-6 _ _ _ (sym c.findings_no-no.ensures ∙ c.if-no-eq0.true)).1) in draft-inside _ (yes-6)
+    ((yes-5-6 _ _ _ (sym c.findings_no-no.ensures ∙ c.if-no-eq0.true)).1) in draft-inside _ yes-6
 
 -- n fits two bytes
 few : (c : Start) → c.args.n < 65536

@@ -26,15 +26,15 @@ in_place c =
     let bytes : Bytes c.args.sheet.now = (λ i. (c.type_inv.sheet i).fits) in
     let is = c.fields_no-no.ensures.value in
     let table = c.fields_no-no.ensures.table_after in
-    fielded draft_tag _ _ _ _ (omega arith) (bytes) (sym is ∙ c.if-no-eq0.true) (table c.if-no-eq0.true)
+    fielded draft_tag _ _ _ _ (omega arith) bytes (sym is ∙ c.if-no-eq0.true) (table c.if-no-eq0.true)
 
 ready_of : (c : After-count_of-n) → Ready c.args.sheet.now c.fields_no-no.new.table c.count_of-n.result
 ready_of c =
     let bytes : Bytes c.args.sheet.now = (λ i. (c.type_inv.sheet i).fits) in
     let in_place : Fielded c.args.sheet.now c.fields_no-no.new.table =
     (let is = c.fields_no-no.ensures.value in let table = c.fields_no-no.ensures.table_after in
-    fielded draft_tag _ _ _ _ (omega arith) (bytes) (sym is ∙ c.if-no-eq0.true) (table c.if-no-eq0.true)) in
-    ready-from _ (in_place) c.count_of-n.ensures.0
+    fielded draft_tag _ _ _ _ (omega arith) bytes (sym is ∙ c.if-no-eq0.true) (table c.if-no-eq0.true)) in
+    ready-from _ in_place c.count_of-n.ensures.0
 
 pub count_of-n-requires : goal.count_of-n-requires
 count_of-n-requires c =

@@ -18,7 +18,7 @@ tagged c = c.if-s-at-eq-COUNTED_TAG.true
 number_is : (c : After-byte_to_index) → count_is (form_read (drop c.args.at c.args.s.now)) c.args.n ≡ eqb c.byte_to_index.result c.args.n
 number_is c =
     let tagged : get_or c.args.s.now c.args.at 0 ≡ counted_tag = (c.if-s-at-eq-COUNTED_TAG.true) in
-    count-counted _ _ c.requires.at_in_bounds.0 c.requires.s_value (tagged) _ c.args.n c.byte_to_index.ensures.0
+    count-counted _ _ c.requires.at_in_bounds.0 c.requires.s_value tagged _ c.args.n c.byte_to_index.ensures.0
 
 pub bounds-s-at : goal.bounds-s-at
 bounds-s-at c =

@@ -24,14 +24,14 @@ field_fits-requires-then-tag-eq-COUNTED_TAG c =
 plain : (c : After-field_fits) (b : Bool) → c.field_fits.result ≡ b → fork b (λ _. 9) (λ _. 0) ≡ header_size (drop c.args.at c.args.s.now)
 plain c b e =
     let tag_is : c.byte_at-tag.result ≡ get_or c.args.s.now c.args.at 0 = (c.byte_at-tag.ensures) in
-    header-plain c.args.s.now c.args.at (sym (tag_is) ∙ c.if-tag-eq-PLAIN_TAG.true) b (sym e ∙ c.field_fits.ensures)
+    header-plain c.args.s.now c.args.at (sym tag_is ∙ c.if-tag-eq-PLAIN_TAG.true) b (sym e ∙ c.field_fits.ensures)
 
 -- and a counted one
 counted : (c : After-field_fits-then-tag-eq-COUNTED_TAG) (b : Bool) → c.field_fits-then-tag-eq-COUNTED_TAG.result ≡ b →
     fork b (λ _. 10) (λ _. 0) ≡ header_size (drop c.args.at c.args.s.now)
 counted c b e =
     let tag_is : c.byte_at-tag.result ≡ get_or c.args.s.now c.args.at 0 = (c.byte_at-tag.ensures) in
-    header-counted c.args.s.now c.args.at (sym (tag_is) ∙ c.if-tag-eq-COUNTED_TAG.true) b
+    header-counted c.args.s.now c.args.at (sym tag_is ∙ c.if-tag-eq-COUNTED_TAG.true) b
     (sym e ∙ c.field_fits-then-tag-eq-COUNTED_TAG.ensures)
 
 pub returns-then-field_fits : goal.returns-then-field_fits

@@ -51,8 +51,8 @@ action-misfit c why =
     let no-terminal : get_or c.args.s.now c.states.at 0 ≡ 2 → ⊥ = (λ e. c.if-byte_at-eq-TERMINAL_TAG.false (c.byte_at.ensures ∙ e)) in
     let sized : c.header_size-size.result ≡ header_size (drop c.states.at c.args.s.now) = (c.header_size-size.ensures.0) in
     let action-here : get_or c.args.s.now c.loop-header.at 0 ≡ 4 = (sym c.byte_at-in-loop-header.ensures ∙ c.loop-header-test.true) in
-    let out = action-out (turn) (no-terminal) _ (sized) c.if-size-gt0.true in
-    out c.loop-header.invariant (action-here) why
+    let out = action-out turn no-terminal _ sized c.if-size-gt0.true in
+    out c.loop-header.invariant action-here why
 
 pub states-init : goal.states-init
 states-init c =

@@ -22,7 +22,7 @@ cost-is : (c : After-action_cost-cost) → c.action_cost-cost.result ≡
 cost-is c =
     let stands : c.loop-cost.n < length (actions_at (problem_of c.args.sheet.now) c.args.state) =
     (along-stands c.requires c.loop-cost.invariant.0 _ c.action_here.ensures c.loop-cost-test.true) in
-    c.action_cost-cost.ensures ∙ rw (along-is c.requires c.loop-cost.invariant.0 (stands))
+    c.action_cost-cost.ensures ∙ rw (along-is c.requires c.loop-cost.invariant.0 stands)
 
 pub loop-cost-init : goal.loop-cost-init
 unfolding every

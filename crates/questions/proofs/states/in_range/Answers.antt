@@ -7,7 +7,8 @@ use Rattle.sheet.proofs.Laws.{is-terminal, is-decision}
 use Rattle.questions.proofs.Stepping.{few, terminal-from, decision-from}
 use Rattle.questions.proofs.Ranges.{value_out, mark-out, terminal-range, count-out, zero-range, solved-range, open-range}
 use Rattle.questions.proofs.states.in_range.Goals as goal
-use Rattle.questions.proofs.states.in_range.Goals.{After-word_to_index-chosen, Else-is_terminal, Else-mark-gt-SOLVED, Else-value_at-gt-NO_PLAN, Then-is_terminal}
+use Rattle.questions.proofs.states.in_range.Goals.{After-word_to_index-chosen, Else-is_terminal, Else-mark-gt-SOLVED}
+use Rattle.questions.proofs.states.in_range.Goals.{Else-value_at-gt-NO_PLAN, Then-is_terminal}
 
 -- the value and the mark are in range
 low : (c : Else-value_at-gt-NO_PLAN) → (cell_of (cells_of c.args.sheet.now) c.args.state).value ≤ 1000000001

@@ -22,7 +22,7 @@ stands : (c : In-loop-at) → c.loop-at.invariant.0 < length (actions_at (proble
 stands c =
     let decided : Decision c.args.sheet.now c.args.table.now c.args.state =
     (decision-from c.requires.within _ c.is_terminal.ensures c.if-is_terminal.false) in
-    along-stands (decided) c.loop-at.invariant.1 _ c.action_here.ensures c.loop-at-test.true
+    along-stands decided c.loop-at.invariant.1 _ c.action_here.ensures c.loop-at-test.true
 
 -- the test of action k
 tested : (c : After-ascending_at) (b : Bool) → c.ascending_at.result ≡ b →
@@ -31,8 +31,8 @@ tested c b e =
     let decided : Decision c.args.sheet.now c.args.table.now c.args.state =
     (decision-from c.requires.within _ c.is_terminal.ensures c.if-is_terminal.false) in
     let stands : c.loop-at.invariant.0 < length (actions_at (problem_of c.args.sheet.now) c.args.state) =
-    (along-stands (decided) c.loop-at.invariant.1 _ c.action_here.ensures c.loop-at-test.true) in
-    rw (along-is (decided) c.loop-at.invariant.1 (stands)) at (sym c.ascending_at.ensures ∙ e)
+    (along-stands decided c.loop-at.invariant.1 _ c.action_here.ensures c.loop-at-test.true) in
+    rw (along-is decided c.loop-at.invariant.1 stands) at (sym c.ascending_at.ensures ∙ e)
 
 pub returns-then-is_terminal : goal.returns-then-is_terminal
 returns-then-is_terminal c =

@@ -28,7 +28,7 @@ priced c =
     (decision-from c.requires.within _ c.is_terminal.ensures c.if-is_terminal.false) in
     let acted : 0 < length (actions_at (problem_of c.args.sheet.now) c.args.state) =
     (ltb-true _ _ (sym c.has_action.ensures ∙ c.if-has_action.true)) in
-    chosen-priced (decided) (acted) c.requires.chosen_exists _ c.chosen_action-at.ensures c.requires.inside
+    chosen-priced decided acted c.requires.chosen_exists _ c.chosen_action-at.ensures c.requires.inside
 
 pub terminal_cost-requires : goal.terminal_cost-requires
 terminal_cost-requires c = ended c

@@ -24,7 +24,7 @@ stands : (c : In-loop-x) → c.loop-x.invariant.0 < length (actions_at (problem_
 stands c =
     let decided : Decision c.args.sheet.now c.args.table.now c.args.state =
     (decision-from c.requires.within _ c.is_terminal.ensures c.if-is_terminal.false) in
-    along-stands (decided) c.loop-x.invariant.1 _ c.action_here.ensures c.loop-x-test.true
+    along-stands decided c.loop-x.invariant.1 _ c.action_here.ensures c.loop-x-test.true
 
 pub terminal_cost-requires : goal.terminal_cost-requires
 terminal_cost-requires c = ended c

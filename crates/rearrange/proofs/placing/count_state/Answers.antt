@@ -20,7 +20,7 @@ stands : (c : In-loop-waits) → c.loop-waits.k < length (actions_at (problem_of
 stands c =
     let decides : Decision c.args.sheet.now c.args.table.now c.args.state =
     (decision-from c.requires.within _ c.is_terminal.ensures c.if-is_terminal.false) in
-    along-stands (decides) c.loop-waits.invariant.0 _ c.action_here.ensures c.loop-waits-test.true
+    along-stands decides c.loop-waits.invariant.0 _ c.action_here.ensures c.loop-waits-test.true
 
 pub is_terminal-requires : goal.is_terminal-requires
 is_terminal-requires c = c.requires.within
