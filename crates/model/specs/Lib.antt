@@ -6,6 +6,7 @@ pub mod Read
 pub mod Cost
 pub mod QValue
 pub mod Questions
+pub mod Refusals
 pub mod Ldfs
 pub mod Optimal
 pub mod History

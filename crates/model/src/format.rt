@@ -1,7 +1,7 @@
 // The numbers of the format (S3.2): tags, lengths of content, where things stand in a field, sizes of fields. `specs/Format.antt` has the
 // same numbers as definitions, and where the two differ, a proof fails.
 
-// Tags; a junction's is that of its form, plain or counted.
+// Tags, which are bytes of the format and so numbers here too; a junction's is that of its form, plain or counted.
 pub const HEAD_TAG: u8 = 1;
 
 pub const TERMINAL_TAG: u8 = 2;

@@ -1,7 +1,8 @@
-// The limits and types that the code and the definitions of specs/ share. There are no functions here.
+// The limits and types that the code and the definitions of specs/ share.
 #![tactic(auto)]
 
 pub mod format; // format.rt: tags, lengths, offsets and sizes of fields
+pub mod refusal; // refusal.rt: the questions, and a refusal by one of them
 
 // Limits: those of `specs/Limits.antt`.
 // The most stages of a sheet, and the fewest entries of its index table (S4.1, S4.3).
@@ -28,30 +29,8 @@ pub const LONG_CEILING: u64 = CEILING as u64;
 // The largest value, which is written for none: there is no complete plan (S2.11).
 pub const NO_PLAN: u32 = CEILING + 1;
 
-// The numbers of the questions, by their names, in the order in which they are put (S4).
-pub const ROOM: u32 = 1;
-
-pub const SIZE: u32 = 2;
-
-pub const HEAD: u32 = 3;
-
-pub const FIELDS: u32 = 4;
-
-pub const COUNT: u32 = 10;
-
-pub const RANGES: u32 = 5;
-
-pub const FINDINGS: u32 = 6;
-
-pub const CIRCLE: u32 = 11;
-
-pub const VALUES: u32 = 7;
-
-pub const MARKS: u32 = 8;
-
-pub const BUDGET: u32 = 9;
-
-// How a call ended. `specs/Report.antt` gives the number of each case (S7.1).
+// How a call ended. `specs/Report.antt` gives the number of each case (S7.1). A refusal holds its number, and not a `Refusal`, since
+// `ldfs::refusal` answers for every number.
 #[derive(Clone, Copy)]
 pub enum Outcome {
     Refused(u32),

@@ -38,21 +38,6 @@ join-total : (x y : ℕ) → x + y ≡ join whole x y
 unfolding join
 join-total x y = refl
 
--- by the byte of the kind
-of-byte : (b x y : ℕ) → ((b ≡ 0 → x ≡ of_kind (kind_of b) x y) × ((b ≡ 0 → ⊥) → y ≡ of_kind (kind_of b) x y))
-unfolding of_kind kind_of
-of-byte zero x y = (λ e. refl, λ ne. absurd (ne refl))
-of-byte (suc b) x y = (λ e. absurd (omega arith), λ ne. refl)
-
-module _ (s : List ℕ) (x y : ℕ) where
-  pub of-worst : get_or s 3 0 ≡ 0 → x ≡ of_kind (problem_of s).kind x y
-  unfolding problem_of
-  of-worst = (of-byte (get_or s 3 0) x y).0
-
-  pub of-whole : (get_or s 3 0 ≡ 0 → ⊥) → y ≡ of_kind (problem_of s).kind x y
-  unfolding problem_of
-  of-whole = (of-byte (get_or s 3 0) x y).1
-
 pub of-kind-fits : (k : Kind) (x y : ℕ) → x ≤ y → (x ≤ of_kind k x y) × (of_kind k x y ≤ y)
 unfolding of_kind
 of-kind-fits worst x y le = (omega arith, omega arith)
@@ -64,22 +49,6 @@ joined_of : (k : Kind) (v : ℕ → ℕ) (ts : List ℕ) →
 unfolding of_kind
 joined_of worst v ts = refl
 joined_of whole v ts = refl
-
-module _ (k : Kind) (v : ℕ → ℕ) (ts : List ℕ) where
-  -- x joins the values before number j
-  abbrev pub joined_from : ℕ → ℕ → ℕ
-  joined_from j x = join k x (joined_values k v (drop j ts))
-
-  pub joined-begin : joined_values k v ts ≡ joined_from 0 0
-  joined-begin = sym (join-zero k (joined_values k v ts)).1
-
-  pub joined-turn : (j x : ℕ) → j < length ts → joined_from j x ≡ joined_from (suc j) (join k x (v (get_or ts j 0)))
-  unfolding joined_values
-  joined-turn j x lt = rw (drop-cons ts j 0 lt) (join-assoc k x (v (get_or ts j 0)) (joined_values k v (drop (suc j) ts)))
-
-  pub joined_end : (x : ℕ) → joined_from (length ts) x ≡ x
-  unfolding joined_values
-  joined_end x = rw (drop-length ts) (join-zero k x).0
 
 -- of `best`, whose value counts as `most`, and the states behind it, the first whose value is largest: as the loop finds it
 unfoldable pub dearest_with : (ℕ → ℕ) → ℕ → ℕ → List ℕ → ℕ
@@ -111,82 +80,70 @@ module _ (v : ℕ → ℕ) where
       same true = rw own
       same false = rw own
 
--- the loop begins with the first, takes one successor a turn, and ends with the dearest of all
-module _ (v : ℕ → ℕ) (ts : List ℕ) where
-  dearest-begin : 0 < length ts → dearest v ts ≡ dearest_with v (get_or ts 0 0) 0 ts
-  dearest-begin some = go ts some
-    where
-      go : (us : List ℕ) → 0 < length us → dearest v us ≡ dearest_with v (get_or us 0 0) 0 us
-      go [] some = absurd (omega arith)
-      go (t ∷ us) some = with_first v t us
+-- the loop begins with the first
+dearest-begin : (v : ℕ → ℕ) (ts : List ℕ) → 0 < length ts → dearest v ts ≡ dearest_with v (get_or ts 0 0) 0 ts
+dearest-begin v [] some = absurd (omega arith)
+dearest-begin v (t ∷ us) some = with_first v t us
 
-  dearest-turn : (best most j : ℕ) → j < length ts →
-      dearest_with v best most (drop j ts) ≡
-      dearest_with v (dearer_of most (v (get_or ts j 0)) best (get_or ts j 0)) (max most (v (get_or ts j 0))) (drop (suc j) ts)
-  unfolding dearest_with
-  dearest-turn best most j lt = rw (drop-cons ts j 0 lt)
-
-  dearest-end : (best most : ℕ) → dearest_with v best most (drop (length ts) ts) ≡ best
-  unfolding dearest_with
-  dearest-end best most = rw (drop-length ts)
-
--- `total` and `most` are the sum and the largest of the values before number j, and `best` is the first of the largest value; before any
--- of them, the first successor
-pub record Sums (v : ℕ → ℕ) (ts : List ℕ) (total most best j : ℕ) : Type 0 where
-  pub summed : total ≤ 4294967296 * j
+-- `total` and `most` are the sum and the largest of the values of those successors that have come, `rest` are those that are left, and
+-- `best` is the first of the largest value; before any has come, the first successor
+pub record Sums (v : ℕ → ℕ) (ts : List ℕ) (total most best : ℕ) (rest : List ℕ) : Type 0 where
+  pub summed : total + 4294967296 * length rest ≤ 4294967296 * length ts
   pub within : most ≤ total
-  pub total_is : joined_values whole v ts ≡ joined_from whole v ts j total
-  pub most_is : joined_values worst v ts ≡ joined_from worst v ts j most
-  pub best_is : dearest v ts ≡ dearest_with v best most (drop j ts)
+  pub total_is : joined_values whole v ts ≡ join whole total (joined_values whole v rest)
+  pub most_is : joined_values worst v ts ≡ join worst most (joined_values worst v rest)
+  pub best_is : dearest v ts ≡ dearest_with v best most rest
 
 module _ {v : ℕ → ℕ} {ts : List ℕ} where
   -- none of them yet: the first stands for the dearest
-  pub sums_none : {first : ℕ} → 0 < length ts → first ≡ get_or ts 0 0 → Sums v ts 0 0 first 0
+  pub sums_none : {first : ℕ} → 0 < length ts → first ≡ get_or ts 0 0 → Sums v ts 0 0 first ts
   sums_none some e = record {
     summed = omega arith;
     within = omega arith;
-    total_is = joined-begin whole v ts;
-    most_is = joined-begin worst v ts;
+    total_is = sym (join-zero whole (joined_values whole v ts)).1;
+    most_is = sym (join-zero worst (joined_values worst v ts)).1;
     best_is = rw e (dearest-begin v ts some);
   }
 
-  module _ {total most best j : ℕ} (h : Sums v ts total most best j) where
-    -- successor number j is t, whose value is x
-    pub sums-more : {t x top next : ℕ} → j < length ts → t ≡ get_or ts j 0 → x ≡ v t → x < 4294967296 → top ≡ max most x →
-        next ≡ dearer_of most x best t → Sums v ts (total + x) top next (j + 1)
-    sums-more lt at e small larger next-is = record {
-      summed = omega (arith, h.summed);
-      within = omega (arith, h.within, larger);
-      total_is = rw (add-one, join-total, e, at) (h.total_is ∙ joined-turn whole v ts j total lt);
-      most_is = rw (add-one, larger, join-most, e, at) (h.most_is ∙ joined-turn worst v ts j most lt);
-      best_is = rw (add-one, next-is, larger, e, at) (h.best_is ∙ dearest-turn v ts best most j lt);
-    }
+  -- the next one comes, whose value is x
+  pub sums-more : {total most best t x top next : ℕ} {us : List ℕ} → Sums v ts total most best (t ∷ us) → x ≡ v t → x < 4294967296 →
+      top ≡ max most x → next ≡ dearer_of most x best t → Sums v ts (total + x) top next us
+  unfolding joined_values dearest_with
+  sums-more {total} {most} {us} h e small larger next-is = record {
+    summed = omega (arith, h.summed);
+    within = omega (arith, h.within, larger);
+    total_is = rw (join-total, e) (h.total_is ∙ join-assoc whole total _ (joined_values whole v us));
+    most_is = rw (larger, join-most, e) (h.most_is ∙ join-assoc worst most _ (joined_values worst v us));
+    best_is = rw (next-is, larger, e) h.best_is;
+  }
 
-    sums-top : j ≡ length ts → joined_values worst v ts ≡ most
-    sums-top e = rw e at h.most_is ∙ joined_end worst v ts most
+  -- none is left
+  module _ {total most best : ℕ} (h : Sums v ts total most best []) where
+    sums-top : joined_values worst v ts ≡ most
+    unfolding joined_values
+    sums-top = h.most_is ∙ (join-zero worst most).0
 
-    sums-all : (k : Kind) → j ≡ length ts → joined_values k v ts ≡ of_kind k most total
-    sums-all k e =
-        let all : joined_values whole v ts ≡ total = rw e at h.total_is ∙ joined_end whole v ts total in
-        joined_of k v ts ∙ rw (all, sums-top e)
+    sums-all : (k : Kind) → joined_values k v ts ≡ of_kind k most total
+    unfolding joined_values
+    sums-all k = joined_of k v ts ∙ rw (h.total_is ∙ (join-zero whole total).0, sums-top) refl
 
     -- the price of an action with these successors, once all have been gone through
-    pub sums-price : (k : Kind) (a : Action) → a.successors ≡ ts → j ≡ length ts →
-        q k v a ≡ written_price most (a.cost + of_kind k most total)
-    sums-price k a is e = go (ltb ceiling most) refl
+    pub sums-price : (k : Kind) (a : Action) → a.successors ≡ ts → q k v a ≡ written_price most (a.cost + of_kind k most total)
+    sums-price k a is = go (ltb ceiling most) refl
       where
         top : joined_values worst v a.successors ≡ most
-        top = ap (joined_values worst v) is ∙ sums-top e
+        top = ap (joined_values worst v) is ∙ sums-top
 
         all : joined_values k v a.successors ≡ of_kind k most total
-        all = ap (joined_values k v) is ∙ sums-all k e
+        all = ap (joined_values k v) is ∙ sums-all k
 
         go : (b : Bool) → ltb ceiling most ≡ b → q k v a ≡ fork b (λ _. no_plan) (λ _. cut (a.cost + of_kind k most total))
         go true above = price-none k v a (rw top (ltb-true ceiling most above))
         go false low = price-number k v a (rw top (ltb-false ceiling most low)) ∙ ap (λ (x : ℕ). cut (a.cost + x)) all
 
-    pub sums-dearest : j ≡ length ts → best ≡ dearest v ts
-    sums-dearest e = sym (rw e at h.best_is ∙ dearest-end v ts best most)
+    pub sums-dearest : best ≡ dearest v ts
+    unfolding dearest_with
+    sums-dearest = sym h.best_is
 
 module _ (f : Action → ℕ) (acts : List Action) where
   -- x is the least before number i

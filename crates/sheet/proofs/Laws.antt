@@ -1,30 +1,34 @@
 -- What the bytes of a sheet are at each offset that the code reads or stores.
-use Prim.Native.Nat.{ℕ, ◌+◌, ◌*◌, ◌<◌, ◌≤◌}
+use Prim.Native.Nat.{ℕ, zero, suc, ◌+◌, ◌-◌, ◌*◌, ◌/◌, ◌%◌, ◌<◌, ◌≤◌}
 use mathlib.Core.Path.{◌≡◌, refl, ap, ◌∙◌, sym}
 use mathlib.Core.Bool.{Bool, true, false}
-use mathlib.Core.List.{List, ◌++◌}
+use mathlib.Core.List.{List, [], ◌∷◌, ◌++◌}
 use native.Mathlib.Omega.{arith}
 use native.Mathlib.Numerals.{add-one}
 use borrow.Author.Tests.{eqb-true, eqb-false, lt-ltb, le-ltb}
 use lib.Dec.{eqb, ltb}
-use lib.ListN.{length, get_or, set, drop, length-set, length-append, get_or-append}
-use lib.Seq.{get_or-set_same, get_or-set_other, set-set}
-use Rattle.model.specs.Problem.{Action, plain, counted, Node, terminal, decision, Problem, Cell, cell, states, node_at, action_at}
+use lib.ListN.{length, get_or, set, take, drop, length-set, length-append, length-drop, get_or-append}
+use lib.Seq.{get_or-set_same, get_or-set_other, set-set, drop-drop}
+use Rattle.std.proofs.lemmas.List.{get_or-take, length-take, drop-take, take_rest}
+use Rattle.model.specs.Problem.{Kind, worst, whole, Action, plain, counted, Node, terminal, decision, Problem, Cell, cell, states}
+use Rattle.model.specs.Problem.{node_at, action_at}
 use Rattle.model.specs.Problem.{cell_of, set_value, set_solved}
-use Rattle.model.specs.Format.{be32, put32, terminal_tag, plain_tag, decision_tag, action_tag, decision_length, write}
+use Rattle.model.specs.Format.{be16, be32, put32, min_action_length, max_action_length, terminal_tag, plain_tag, decision_tag, action_tag}
+use Rattle.model.specs.Format.{decision_length, write}
 use Rattle.model.specs.Format.{node_size, action_place, tag_of}
-use Rattle.model.specs.Format.{value_in, value_offset, actions_of, form_of, action_offset, offsets_from}
-use Rattle.model.specs.Read.{action_fits, action_read, problem_of, cells_of}
+use Rattle.model.specs.Format.{value_in, offset, value_offset, actions_of, form_of, action_offset, offsets_from}
+use Rattle.model.specs.Read.{kind_of, action_fits, successors_read, action_read, problem_of, cells_of}
 use Rattle.model.specs.Limits.{max_actions, max_successors}
 use Rattle.layout.specs.Shape.{FewSuccessors, NodeShaped, ChosenShaped, Shaped, set_mark, set_chosen}
+use Rattle.layout.proofs.Bytes.{be16-from, put32-from}
 use Rattle.layout.proofs.Index.{offsets-count, index_is}
 use Rattle.layout.proofs.Places.{form-length, other_tag, write-length}
 use Rattle.layout.proofs.Shapes.{node-shaped, action-shaped}
 use Rattle.layout.proofs.Fields.{state-room, value_room, tag_at, value-at, mark-at, value-stored, mark-stored, cost-at}
 use Rattle.layout.proofs.Fields.{header-length-at, chosen_at, chosen-stored, action-tag-at, action-next, after_last}
 use Rattle.layout.proofs.Back.{problem-back, cells-back}
-use Rattle.layout.proofs.Actions.{content-of, count_of, written-action, written-fits}
-use Rattle.sheet.specs.Sheet.{Sheet, Within, Terminal, Decision, Priced, terminal_cost}
+use Rattle.layout.proofs.Actions.{content-of, count_of, written-action, written-fits, successor-of}
+use Rattle.sheet.specs.Sheet.{Sheet, Within, Terminal, Decision, Priced, Below, Place, action_of, Walk, walked, Walks, Comes, terminal_cost}
 
 -- A node by its tag, and where the value stands in its field.
 pub is-terminal : (n : Node) → tag_of n ≡ terminal_tag → n ≡ terminal (terminal_cost n)
@@ -105,6 +109,10 @@ indexed {p} rest is shaped e = record {
   table = λ i lt. rw e (get_or-append (offsets_from 8 p.nodes) rest 0 i (rw (offsets-count 8 p.nodes) lt) ∙ index_is p i lt);
 }
 
+-- the sheet of bytes that are known by two names
+pub seen : {b s t : List ℕ} → b ≡ s → Sheet b t (problem_of b) (cells_of b) → Sheet s t (problem_of s) (cells_of s)
+seen e h = rw e at h
+
 -- The problem and the cells of a sheet are those that its bytes say.
 module _ {s t : List ℕ} {p : Problem} {cells : List Cell} (h : Sheet s t p cells) where
   pub problem-is : problem_of s ≡ p
@@ -143,25 +151,25 @@ module _ {s t : List ℕ} {p : Problem} {cells : List Cell} (h : Sheet s t p cel
   long = ap length h.is
 
   -- the first nine bytes of its field are inside
-  pub nine-room : get_or t i 0 + 9 ≤ length s
-  nine-room = omega (arith, long, h.table i lt, state-room p cells i lt, nine-inside (node_at p i))
+  pub nine-room : offset p i + 9 ≤ length s
+  nine-room = omega (arith, long, state-room p cells i lt, nine-inside (node_at p i))
 
-  pub state-in : get_or t i 0 < length s
+  pub state-in : offset p i < length s
   state-in = omega (arith, nine-room)
 
-  pub tag-of : get_or s (get_or t i 0) 0 ≡ tag_of (node_at p i)
-  tag-of = rw (h.table i lt, h.is) (tag_at p cells i lt)
+  pub tag-of : get_or s (offset p i) 0 ≡ tag_of (node_at p i)
+  tag-of = rw h.is (tag_at p cells i lt)
 
-  value-place : (o k : ℕ) → o ≡ get_or t i 0 → value_in (node_at p i) ≡ k → (o + k ≡ value_offset p i) × (o + k + 5 ≤ length s)
+  value-place : (o k : ℕ) → o ≡ offset p i → value_in (node_at p i) ≡ k → (o + k ≡ value_offset p i) × (o + k + 5 ≤ length s)
   unfolding value_offset
-  value-place o k here e = omega (arith, long, h.table i lt, value_room p cells i lt)
+  value-place o k here e = omega (arith, long, value_room p cells i lt)
 
   -- where its value stands
-  pub place-terminal : (o : ℕ) → o ≡ get_or t i 0 → get_or s o 0 ≡ terminal_tag →
+  pub place-terminal : (o : ℕ) → o ≡ offset p i → get_or s o 0 ≡ terminal_tag →
       (o + 7 ≡ value_offset p i) × (o + 7 + 5 ≤ length s)
   place-terminal o here e = value-place o 7 here (terminal-value (node_at p i) (sym tag-of ∙ rw here at e))
 
-  pub place-decision : (o : ℕ) → o ≡ get_or t i 0 → (get_or s o 0 ≡ terminal_tag → ⊥) →
+  pub place-decision : (o : ℕ) → o ≡ offset p i → (get_or s o 0 ≡ terminal_tag → ⊥) →
       (o + 3 ≡ value_offset p i) × (o + 3 + 5 ≤ length s)
   place-decision o here e = value-place o 3 here (decision-value (node_at p i) (λ y. e (rw here (tag-of ∙ y))))
 
@@ -194,8 +202,8 @@ module _ {s t : List ℕ} {p : Problem} {cells : List Cell} (h : Sheet s t p cel
 
   -- a terminal
   module _ (tag : tag_of (node_at p i) ≡ terminal_tag) where
-    pub terminal-cost-of : be32 s (get_or t i 0 + 3) ≡ terminal_cost (node_at p i)
-    terminal-cost-of = rw (h.is, h.table i lt) (cost-at p cells i lt (terminal_cost (node_at p i)) (is-terminal (node_at p i) tag))
+    pub terminal-cost-of : be32 s (offset p i + 3) ≡ terminal_cost (node_at p i)
+    terminal-cost-of = rw h.is (cost-at p cells i lt (terminal_cost (node_at p i)) (is-terminal (node_at p i) tag))
 
   -- a decision
   module _ (tag : tag_of (node_at p i) ≡ terminal_tag → ⊥) where
@@ -208,30 +216,53 @@ module _ {s t : List ℕ} {p : Problem} {cells : List Cell} (h : Sheet s t p cel
 
     -- its first action stands behind its own field: behind six bytes of content where it has the tag of a plain one, and else behind as
     -- many as the second byte of its length says
-    own_behind : (o n : ℕ) → o ≡ get_or t i 0 → n ≡ decision_length (form_of (node_at p i)) →
+    own_behind : (o n : ℕ) → o ≡ offset p i → n ≡ decision_length (form_of (node_at p i)) →
         (o + 3 + n ≡ action_offset p i 0) × (o + 3 + n ≤ length s)
     unfolding action_offset action_place
-    own_behind o n here says = omega (arith, long, h.table i lt, state-room p cells i lt, own-inside (node_at p i) tag)
+    own_behind o n here says = omega (arith, long, state-room p cells i lt, own-inside (node_at p i) tag)
 
-    pub first-of-plain : (o : ℕ) → o ≡ get_or t i 0 → get_or s o 0 ≡ plain_tag → (o + 9 ≡ action_offset p i 0) × (o + 9 ≤ length s)
+    pub first-of-plain : (o : ℕ) → o ≡ offset p i → get_or s o 0 ≡ plain_tag → (o + 9 ≡ action_offset p i 0) × (o + 9 ≤ length s)
     first-of-plain o here e =
         let six = plain-length (node_at p i) (sym tag-of ∙ rw here at e) in omega (arith, own_behind o 6 here (sym six))
 
-    pub first-by-length : (o n : ℕ) → o ≡ get_or t i 0 → n ≡ get_or s (o + 2) 0 →
+    pub first-by-length : (o n : ℕ) → o ≡ offset p i → n ≡ get_or s (o + 2) 0 →
         (o + 3 + n ≡ action_offset p i 0) × (o + 3 + n ≤ length s)
     first-by-length o n here is =
         let node = is-decision (node_at p i) tag in
         own_behind o n here
-        (is ∙ rw (here, h.table i lt, h.is) (header-length-at p cells i lt (actions_of (node_at p i)) node))
+        (is ∙ rw (here, h.is) (header-length-at p cells i lt (actions_of (node_at p i)) node))
 
     pub with-chosen : (k : ℕ) → Sheet (set s (value_offset p i + 5) k) t p (set_chosen cells i k)
     with-chosen k =
         let is = is-decision (node_at p i) tag in
         with_cell _ _ (rw h.is (chosen-stored p cells i lt (actions_of (node_at p i)) is k has-cell)) (rw is tt)
 
+-- the kind by its byte
+kind-by : (b : ℕ) → (b ≡ 0 → worst ≡ kind_of b) × ((b ≡ 0 → ⊥) → whole ≡ kind_of b)
+unfolding kind_of
+kind-by zero = (λ e. refl, λ ne. absurd (ne refl))
+kind-by (suc b) = (λ e. absurd (omega arith), λ ne. refl)
+
+pub kind-worst : (s : List ℕ) → get_or s 3 0 ≡ 0 → worst ≡ (problem_of s).kind
+unfolding problem_of
+kind-worst s = (kind-by (get_or s 3 0)).0
+
+pub kind-whole : (s : List ℕ) → (get_or s 3 0 ≡ 0 → ⊥) → whole ≡ (problem_of s).kind
+unfolding problem_of
+kind-whole s = (kind-by (get_or s 3 0)).1
+
 -- the kind's byte is inside
 pub head-room : {s t : List ℕ} {p : Problem} {cells : List Cell} → Sheet s t p cells → 3 < length s
 head-room h = omega (arith, nine-room h 0 h.shaped.some)
+
+-- so are the head's bytes
+pub head-inside : {s t : List ℕ} {p : Problem} {cells : List Cell} → Sheet s t p cells → 8 ≤ length s
+unfolding offset
+head-inside h = omega (arith, nine-room h 0 h.shaped.some)
+
+pub start-read : (s : List ℕ) → be16 s 6 ≡ (problem_of s).start
+unfolding problem_of
+start-read s = refl
 
 pub with-decision-solved : {s t : List ℕ} {p : Problem} {cells : List Cell} → Sheet s t p cells → (i : ℕ) → i < states p →
     (tag_of (node_at p i) ≡ terminal_tag → ⊥) → (k : ℕ) →
@@ -299,3 +330,134 @@ module _ {s t : List ℕ} {p : Problem} {cells : List Cell} (h : Sheet s t p cel
       go : (b : Bool) → eqb (get_or s o 0) action_tag ≡ b → b ≡ ltb 0 (length (actions_at p i))
       go true e = sym (lt-ltb 0 (length (actions_at p i)) (action-stands 0 o here (omega arith) e))
       go false e = sym (le-ltb 0 (length (actions_at p i)) (action-ends 0 o here e))
+
+-- of numbers that are all below n, the first is, and so are the others
+pub below-first : {n t : ℕ} {ts us : List ℕ} → ts ≡ t ∷ us → Below n ts → t < n
+below-first e h = (rw e at h) 0 (omega arith)
+
+pub below-rest : {n t : ℕ} {ts us : List ℕ} → ts ≡ t ∷ us → Below n ts → Below n us
+below-rest e h j lt = (rw e at h) (suc j) (omega arith)
+
+-- four bytes stored, as a piece of the list
+put32-front : (r : List ℕ) (x : ℕ) → 4 ≤ length r →
+    put32 r 0 x ≡ (x / 16777216 ∷ x / 65536 % 256 ∷ x / 256 % 256 ∷ x % 256 ∷ []) ++ drop 4 r
+unfolding put32
+put32-front (a ∷ b ∷ c ∷ d ∷ r) x le = refl
+put32-front (a ∷ b ∷ c ∷ []) x le = absurd (omega arith)
+put32-front (a ∷ b ∷ []) x le = absurd (omega arith)
+put32-front (a ∷ []) x le = absurd (omega arith)
+put32-front [] x le = absurd (omega arith)
+
+-- numbers of two bytes do not look behind their own bytes
+two-taken : (m : ℕ) (r : List ℕ) → 2 ≤ m → be16 (take m r) 0 ≡ be16 r 0
+unfolding be16
+two-taken m r le = rw (get_or-take m r 0 0 (omega arith), get_or-take m r 1 0 (omega arith)) refl
+
+read-taken : (n m : ℕ) (r : List ℕ) → 2 * n ≤ m → successors_read n (take m r) ≡ successors_read n r
+unfolding successors_read
+read-taken zero m r le = refl
+read-taken (suc n) m r le =
+    let split : m ≡ 2 + (m - 2) = omega arith in
+    let rest : drop 2 (take m r) ≡ take (m - 2) (drop 2 r) = ap (λ (k : ℕ). drop 2 (take k r)) split ∙ drop-take 2 (m - 2) r in
+    rw (rest, read-taken n (m - 2) (drop 2 r) (omega arith), two-taken m r (omega arith)) refl
+
+-- the successors in the bytes of an action's field
+pub successors-there : (bs : List ℕ) (o : ℕ) → action_fits (drop o bs) ≡ true → (e : ℕ) → e ≡ o + 3 + be16 bs (o + 1) →
+    (let pairs = take (e - (o + 7)) (drop (o + 7) bs) in successors_read (length pairs / 2) pairs) ≡ (action_read (drop o bs)).successors
+unfolding action_read
+successors-there bs o fits e is =
+    let room = content-of bs o fits in
+    let m : e - (o + 7) ≡ be16 bs (o + 1) - 4 = omega arith in
+    let long : length (take (e - (o + 7)) (drop (o + 7) bs)) ≡ be16 bs (o + 1) - 4 =
+    rw (length-take, length-drop) (omega (arith, room)) in
+    ap (λ (k : ℕ). successors_read (k / 2) (take (e - (o + 7)) (drop (o + 7) bs))) long ∙
+    read-taken ((be16 bs (o + 1) - 4) / 2) (e - (o + 7)) (drop (o + 7) bs) (omega (arith, m)) ∙ rw (be16-from, drop-drop) refl
+
+-- each of them is a number of two bytes
+two-below : (bs : List ℕ) (k : ℕ) → ((i : ℕ) → get_or bs i 0 < 256) → be16 bs k < 65536
+unfolding be16
+two-below bs k byte = omega (arith, byte k, byte (k + 1))
+
+pub successors-small : (bs : List ℕ) (o : ℕ) → action_fits (drop o bs) ≡ true → ((i : ℕ) → get_or bs i 0 < 256) →
+    Below 65536 (action_read (drop o bs)).successors
+successors-small bs o fits byte j lt = rw (successor-of bs o fits j lt) (two-below bs (o + 7 + 2 * j) byte)
+
+-- one of them read, with two bytes or more
+pub put32-bytes : (s : List ℕ) (o x : ℕ) → o + 4 ≤ length s →
+    put32 s o x ≡ take o s ++ ((x / 16777216 ∷ x / 65536 % 256 ∷ x / 256 % 256 ∷ x % 256 ∷ []) ++ drop 4 (drop o s))
+put32-bytes s o x le =
+    let long : 4 ≤ length (drop o s) = rw length-drop (omega arith) in
+    let same : o + 0 ≡ o = omega arith in
+    rw same at (put32-from s o 0 x) ∙ rw (put32-front (drop o s) x long) refl
+
+pub read-none : (ps : List ℕ) → length ps < 2 → successors_read (length ps / 2) ps ≡ []
+unfolding successors_read
+read-none ps lt = let none : length ps / 2 ≡ 0 = omega arith in rw none refl
+
+pub read-one : (ps : List ℕ) → 2 ≤ length ps →
+    (let rest = take (length ps - 2) (drop 2 ps) in
+    successors_read (length ps / 2) ps ≡ be16 ps 0 ∷ successors_read (length rest / 2) rest)
+unfolding successors_read
+read-one ps le =
+    let all : take (length ps - 2) (drop 2 ps) ≡ drop 2 ps = take_rest ps 2 in
+    let one : length ps / 2 ≡ suc (length (drop 2 ps) / 2) = rw length-drop (omega arith) in
+    rw (all, one) refl
+
+-- An action at its place, known by its fields or by its value.
+module _ {bs : List ℕ} {o : ℕ} {a : Place} (e : record { bytes = bs; at = o } ≡ a) where
+  pub place-at : o ≡ a.at
+  place-at = ap (λ (p : Place). p.at) e
+
+  pub place-bytes : bs ≡ a.bytes
+  place-bytes = ap (λ (p : Place). p.bytes) e
+
+  pub place-says : action_read (drop o bs) ≡ action_of a
+  place-says = rw (place-at, place-bytes) refl
+
+  module _ (fits : action_fits (drop o bs) ≡ true) where
+    -- its content, its successors and its cost, in the bytes
+    pub place-content : (min_action_length ≤ be16 bs (o + 1)) × (be16 bs (o + 1) ≤ max_action_length) ×
+        (o + 3 + be16 bs (o + 1) ≤ length bs)
+    place-content = omega (arith, content-of bs o fits)
+
+    pub place-count : (1 ≤ length (action_of a).successors) × (length (action_of a).successors ≤ max_successors) ×
+        (2 * length (action_of a).successors + 4 ≡ be16 bs (o + 1))
+    place-count =
+        let says = ap (λ (x : Action). length x.successors) place-says in omega (arith, says, content-of bs o fits, count_of bs o fits)
+
+-- A walk over the actions of a decision: what its next action is, where it stands.
+module _ {w : Walk} {at : ℕ} (h : Walks w at) where
+  is-sheet : Sheet w.bytes h.in_place.table (problem_of w.bytes) (cells_of w.bytes)
+  is-sheet = h.in_place.sheet
+
+  pub walk-few : length (walked w) ≤ max_actions
+  walk-few = few-actions is-sheet w.state h.decision.below h.decision.tag
+
+  pub walk-ends : eqb (get_or w.bytes at 0) action_tag ≡ false → w.index ≡ length (walked w)
+  walk-ends e = omega (arith, h.upto, action-ends is-sheet w.state h.decision.below h.decision.tag w.index at h.place e)
+
+  module _ (e : eqb (get_or w.bytes at 0) action_tag ≡ true) where
+    pub walk-more : w.index < length (walked w)
+    walk-more = action-stands is-sheet w.state h.decision.below h.decision.tag w.index at h.place h.upto e
+
+    pub walk-fits : action_fits (drop at w.bytes) ≡ true
+    walk-fits = action-in-place is-sheet w.state h.decision.below h.decision.tag w.index at h.place walk-more
+
+    pub walk-comes : {a : Place} → a.bytes ≡ w.bytes → a.at ≡ at →
+        Comes w a (record { bytes = w.bytes; state = w.state; index = w.index + 1 })
+    walk-comes bytes here = record {
+      more = walk-more;
+      is = rw (bytes, here) (action-is is-sheet w.state h.decision.below h.decision.tag w.index at h.place walk-more);
+      bytes = bytes;
+      at = here ∙ h.place;
+      then = refl;
+    }
+
+    pub walk-on : (next : ℕ) → next ≡ at + 7 + 2 * length (action_read (drop at w.bytes)).successors →
+        Walks (record { bytes = w.bytes; state = w.state; index = w.index + 1 }) next
+    walk-on next after = record {
+      in_place = h.in_place;
+      decision = h.decision;
+      upto = omega (arith, walk-more);
+      place = action-after is-sheet w.state h.decision.below h.decision.tag w.index at h.place walk-more next after;
+    }

@@ -1,29 +1,51 @@
-// Pieces written into a buffer, one behind the other. Each function answers the place behind what it wrote.
-ghost use Rattle.std.specs.Prelude.{ℕ, ◌+◌, ◌*◌, ◌<◌, ◌≤◌, length, get_or, take};
+// Bytes written into a buffer, one piece behind the other.
+ghost use Rattle.std.specs.Prelude.{◌≡◌, ℕ, ◌+◌, ◌*◌, ◌<◌, ◌≤◌, length, get_or};
 ghost use Rattle.model.specs.Format.{bytes2, successors_bytes};
-ghost use Rattle.layout.specs.Placed.{Wrote};
+ghost use Rattle.sheet.specs.Put.{HasRoom, Appended};
 
-// A number in two bytes.
-pub fn put16(out: &mut [u8], at: usize, x: u32) -> usize
-    requires { (x < 65536) × (at + 2 ≤ length out.old) }
-    ensures { Wrote out.old out.new at result (bytes2 x) }
-{
-    out[at] = (x / 256) as u8;
-    out[at + 1] = (x % 256) as u8;
-    at + 2
+// A lent buffer that bytes are written into, and the place behind what is written.
+#[derive(Drop)]
+pub struct Page<'a> {
+    pub out: &'a mut [u8],
+    pub end: usize,
 }
 
-// The first m numbers of a row, two bytes each.
-pub fn put_row(row: &[u32], m: usize, out: &mut [u8], at: usize) -> usize
-    requires m_in_bounds { (m ≤ length row.now) × (at + 2 * m ≤ length out.old) }
-    requires by_index { (j : ℕ) → j < m → get_or row.now j 0 < 65536 }
-    ensures { Wrote out.old out.new at result (successors_bytes (take m row.now)) }
-{
-    let mut end: usize = at;
-    let mut j: usize = 0;
-    while j < m {
-        end = put16(out, end, row[j]);
-        j += 1;
+impl<'a> Page<'a> {
+    // A buffer with nothing written into it yet.
+    pub fn new(out: &'a mut [u8]) -> Page<'a>
+        ensures same { result.out.ghost_name ≡ out.entry.ghost_name }
+        ensures bytes { result.out.now ≡ out.old }
+        ensures end { result.end ≡ 0 }
+    {
+        Page { out, end: 0 }
     }
-    end
+
+    // Some bytes, copied.
+    pub fn bytes(&mut self, bytes: &[u8])
+        requires { HasRoom self.old (length bytes.now) }
+        ensures { Appended self.old self.new bytes.now }
+    {
+        let end = self.end + bytes.len();
+        self.out[self.end..end].copy_from_slice(bytes);
+        self.end = end;
+    }
+
+    // A number in two bytes.
+    pub fn number(&mut self, x: u32)
+        requires { (x < 65536) × HasRoom self.old 2 }
+        ensures { Appended self.old self.new (bytes2 x) }
+    {
+        self.bytes(&(x as u16).to_be_bytes());
+    }
+
+    // The numbers of a row, two bytes each.
+    pub fn row(&mut self, row: &[u32])
+        requires room { HasRoom self.old (2 * length row.now) }
+        requires by_index { (j : ℕ) → j < length row.now → get_or row.now j 0 < 65536 }
+        ensures { Appended self.old self.new (successors_bytes row.now) }
+    {
+        for x in row {
+            self.number(*x);
+        }
+    }
 }

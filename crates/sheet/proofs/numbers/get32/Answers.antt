@@ -1,5 +1,5 @@
+use Rattle.std.proofs.Common.{rules}
 use Rattle.model.specs.Format.{be32}
-use borrow.Author.Rules.{rules}
 use Rattle.sheet.proofs.numbers.get32.Goals as goal
 
 pub returns : goal.returns

@@ -1,17 +1,9 @@
-use native.Mathlib.Omega.{arith}
-use lib.ListN.{length-set}
-use Rattle.model.specs.Format.{put32}
+use Rattle.std.proofs.Common.{arith, refl, ◌≡◌, ◌+◌, ◌-◌, ◌/◌, ◌%◌}
+use Rattle.sheet.proofs.Laws.{put32-bytes}
 use Rattle.sheet.proofs.numbers.set32.Goals as goal
 
-pub bounds-s-at-2 : goal.bounds-s-at-2
-bounds-s-at-2 c = simp length-set (omega arith)
-
-pub bounds-s-at-3 : goal.bounds-s-at-3
-bounds-s-at-3 c = simp length-set (omega arith)
-
-pub bounds-s-at-4 : goal.bounds-s-at-4
-bounds-s-at-4 c = simp length-set (omega arith)
-
 pub returns : goal.returns
-unfolding put32
-returns c = cc
+returns c =
+    let four : c.args.at + 4 - c.args.at ≡ 4 = omega arith in
+    let high : c.args.x / 16777216 % 256 ≡ c.args.x / 16777216 = omega arith in
+    rw (c.copy_from_slice.ensures.after, c.to_be_bytes.ensures, four, high, put32-bytes c.args.s.now c.args.at c.args.x c.requires) refl

@@ -1,9 +1,11 @@
-use native.Mathlib.Omega.{arith}
-use Rattle.sheet.proofs.Joining.{of-worst, of-whole}
+use Rattle.std.proofs.Common.{rules}
+use Rattle.sheet.specs.Sheet.{of_kind}
 use Rattle.sheet.proofs.pricing.of_kind.Goals as goal
 
-pub returns-then-sheet-eq-WORST : goal.returns-then-sheet-eq-WORST
-returns-then-sheet-eq-WORST c = of-worst c.args.sheet.now _ _ (omega arith)
+pub returns-in-Worst : goal.returns-in-Worst
+unfolding of_kind
+returns-in-Worst c = search rules
 
-pub returns-else-sheet-eq-WORST : goal.returns-else-sheet-eq-WORST
-returns-else-sheet-eq-WORST c = of-whole c.args.sheet.now _ _ (λ e. omega arith)
+pub returns-in-Whole : goal.returns-in-Whole
+unfolding of_kind
+returns-in-Whole c = search rules

@@ -1,0 +1,19 @@
+use Rattle.std.proofs.Common.{arith, ap, length}
+use Rattle.sheet.proofs.Laws.{seen, chosen-room, chosen_of}
+use Rattle.sheet.proofs.fields.Indexed.chosen.Goals as goal
+
+pub overflow_add-result : goal.overflow_add-result
+overflow_add-result c = omega (arith, c.value_place.ensures.1, ap length c.self.view_is, c.self.told.0)
+
+pub bounds-bytes-value_place : goal.bounds-bytes-value_place
+bounds-bytes-value_place c =
+    omega (
+      arith,
+      c.value_place.ensures.0,
+      ap length c.self.view_is,
+      chosen-room (seen c.self.view_is c.self.invariant) _ c.requires.below c.requires.tag,
+    )
+
+pub returns : goal.returns
+returns c =
+    rw (c.self.view_is, c.value_place.ensures.0) (chosen_of (seen c.self.view_is c.self.invariant) _ c.requires.below c.requires.tag)
