@@ -1,6 +1,6 @@
--- A question put to a state, and what it may suppose of those before it.
+-- What question 8 may suppose of those before it.
 use Prim.Native.Nat.{ℕ, ◌<◌}
-use mathlib.Core.Path.{◌≡◌, subst}
+use mathlib.Core.Path.{◌≡◌}
 use mathlib.Core.Bool.{true}
 use mathlib.Core.List.{List, [], ◌∷◌}
 use native.Mathlib.Omega.{arith}
@@ -10,29 +10,16 @@ use Rattle.model.proofs.TestLaws.{all_true, every_true}
 use Rattle.model.specs.Problem.{Node, terminal, decision, Problem, Cell, states, node_at, cell_of, solved}
 use Rattle.model.specs.Format.{actions_of}
 use Rattle.model.specs.Questions.{chosen_in_range, cell_in_range, question5}
-use Rattle.layout.specs.Shape.{Inside}
-use Rattle.questions.specs.declared.states.Question.{Question}
-use Rattle.questions.specs.declared.states.Question.TheVariants.{Values, Marks}
-use Rattle.questions.specs.Put.{ChosenExists, Before}
+use Rattle.questions.specs.Put.{ChosenExists}
 
-module _ (p : Problem) (cells : List Cell) (question : Question) (before : Before question p cells) where
-  -- questions 7 and 8 suppose that successors are states
-  pub bounds-inside : question ≡ Values → Inside p
-  bounds-inside e = subst (λ (x : Question). Before x p cells) e before
-
-  pub marks-inside : question ≡ Marks → Inside p
-  marks-inside e = (subst (λ (x : Question). Before x p cells) e before).1
-
-  -- question 5 gives that a solved decision's chosen action exists
-  pub marks-chosen : question ≡ Marks → (s : ℕ) → s < states p → solved (cell_of cells s) ≡ true → ChosenExists p cells s
-  unfolding question5 cell_in_range chosen_in_range actions_of
-  marks-chosen e s lt sol = go (node_at p s) (all_true _ (all_true _ (every_true (states p) _ in-range s lt)).1.0).1.1.0
-    where
-      in-range : question5 p cells ≡ true
-      in-range = (subst (λ (x : Question). Before x p cells) e before).0
-
-      go : (n : Node) → chosen_in_range n (cell_of cells s) ≡ true → 0 < length (actions_of n) →
-          (cell_of cells s).chosen < length (actions_of n)
-      go (terminal cost) h some = absurd (omega arith)
-      go (decision form []) h some = absurd (omega arith)
-      go (decision form (a ∷ more)) h some = ltb-true _ _ (rw sol at h)
+-- question 5 gives that a solved decision's chosen action exists
+pub chosen-exists : (p : Problem) (cells : List Cell) → question5 p cells ≡ true → (s : ℕ) → s < states p →
+    solved (cell_of cells s) ≡ true → ChosenExists p cells s
+unfolding question5 cell_in_range chosen_in_range actions_of
+chosen-exists p cells five s lt sol = go (node_at p s) (all_true _ (all_true _ (every_true (states p) _ five s lt)).1.0).1.1.0
+  where
+    go : (n : Node) → chosen_in_range n (cell_of cells s) ≡ true → 0 < length (actions_of n) →
+        (cell_of cells s).chosen < length (actions_of n)
+    go (terminal cost) h some = absurd (omega arith)
+    go (decision form []) h some = absurd (omega arith)
+    go (decision form (a ∷ more)) h some = ltb-true _ _ (rw sol at h)

@@ -1,16 +1,16 @@
 -- Reading at an offset of the whole sheet, beside reading what is left of it: one law for each way through questions 4 and 10.
-use Prim.Native.Nat.{ℕ, zero, suc, ◌+◌, ◌*◌, ◌-◌, ◌%◌, ◌<◌, ◌≤◌, max}
+use Prim.Native.Nat.{ℕ, zero, suc, ◌+◌, ◌-◌, ◌%◌, ◌<◌, ◌≤◌}
 use mathlib.Core.Path.{◌≡◌, refl, ap, ◌∙◌, sym}
 use mathlib.Core.Bool.{Bool, true, false}
 use mathlib.Core.List.{List, [], ◌∷◌, ◌++◌, append_assoc, append-nil}
 use mathlib.Core.Logic.{◌⊎◌, inl, inr, ⊎_elim}
 use native.Mathlib.Omega.{arith}
-use native.Mathlib.Nat.{add_assoc, eq-or-lt_of_le}
+use native.Mathlib.Nat.{eq-or-lt_of_le}
 use native.Mathlib.Numerals.{add-one}
 use lib.Dec.{eqb, leb, ltb}
-use borrow.Author.Tests.{eq-eqb, ne_eqb, eqb-true, eqb-false, leb-true, leb-false, le-leb, lt-leb}
-use lib.ListN.{length, get_or, set, drop, take, replicate, length-drop, length-set, take-append-drop, replicate-append-replicate}
-use lib.Seq.{take_all, drop-drop, get_or-drop, take-suc-set, drop-set-lt}
+use borrow.Author.Tests.{eq-eqb, ne_eqb, eqb-true, eqb-false, leb-true, le-leb, lt-leb}
+use lib.ListN.{length, get_or, set, drop, take, length-drop}
+use lib.Seq.{take_all, drop-drop, get_or-drop, take-suc-set}
 use Rattle.model.proofs.TestLaws.{also-true, also-yes, also-also, all_true, all_one}
 use Rattle.model.specs.Tests.{fork, also, all}
 use Rattle.model.specs.Format.{be16, plain_tag, counted_tag, decision_tag, decision_length}
@@ -23,14 +23,8 @@ use Rattle.model.specs.Questions.{question3, count_is, count_right}
 use Rattle.layout.proofs.Bytes.{get_or-from, be16-from}
 use Rattle.layout.proofs.Index.{actions-size}
 use Rattle.questions.specs.Put.{field_length, header_size, counts_right}
-
--- a test on a place and on what is left
-leb-left : (a k n : ℕ) → a ≤ n → leb (a + k) n ≡ leb k (n - a)
-leb-left a k n le = by (leb k (n - a)) refl
-  where
-    by : (b : Bool) → leb k (n - a) ≡ b → leb (a + k) n ≡ leb k (n - a)
-    by true e = rw e (le-leb (a + k) n (let w = leb-true k (n - a) e in omega arith))
-    by false e = rw e (lt-leb (a + k) n (let w = leb-false k (n - a) e in omega arith))
+use Rattle.std.specs.Bool.{then_some}
+use Rattle.std.proofs.Common.{Some, None}
 
 -- two tests, the second of which is known
 all_first : (b : Bool) → all (b ∷ true ∷ []) ≡ b
@@ -49,7 +43,8 @@ unfolding field_fits
 field_cut s o m lt =
     let short = lt-leb (3 + m) (length s - o) (omega arith) in rw (length-drop o s, short) (sym (all-false (eqb (be16 (drop o s) 1) m)))
 
-pub eqb-left : (a n : ℕ) → a ≤ n → eqb a n ≡ eqb (n - a) 0
+-- a test on a place and on what is left
+eqb-left : (a n : ℕ) → a ≤ n → eqb a n ≡ eqb (n - a) 0
 eqb-left a n le = by (eqb a n) refl
   where
     by : (b : Bool) → eqb a n ≡ b → eqb a n ≡ eqb (n - a) 0
@@ -66,47 +61,64 @@ module _ (s : List ℕ) (o n : ℕ) (le : o ≤ length s) (is : n ≡ be16 s (o 
   field-here m room =
       let enough = le-leb (3 + m) (length s - o) (omega arith) in rw (here, length-drop o s, enough) (sym (all_first (eqb n m)))
 
-  -- the length of an action's field: 0 by the first test that fails
-  pub action-low : n < 6 → 0 ≡ field_length (drop o s)
+  -- the length of an action's field: none by the first test that fails
+  pub action-low : n < 6 → None ≡ field_length (drop o s)
   unfolding field_length action_fits all
   action-low l = rw (here, lt-leb 6 n l)
 
   module _ (a : 6 ≤ n) where
-    pub action-high : max_action_length < n → 0 ≡ field_length (drop o s)
+    pub action-high : max_action_length < n → None ≡ field_length (drop o s)
     unfolding field_length action_fits all
     action-high l = rw (here, le-leb min_action_length n a, lt-leb n max_action_length l)
 
     module _ (b : n ≤ max_action_length) where
-      pub action-odd : (n % 2 ≡ 0 → ⊥) → 0 ≡ field_length (drop o s)
+      pub action-odd : (n % 2 ≡ 0 → ⊥) → None ≡ field_length (drop o s)
       unfolding field_length action_fits all
       action-odd e = rw (here, le-leb min_action_length n a, le-leb n max_action_length b, ne_eqb (n % 2) 0 e)
 
       module _ (e : n % 2 ≡ 0) where
-        pub action-cut : length s < o + 3 + n → 0 ≡ field_length (drop o s)
+        pub action-cut : length s < o + 3 + n → None ≡ field_length (drop o s)
         unfolding field_length action_fits all
         action-cut l =
             let room = lt-leb (3 + n) (length s - o) (omega arith) in
             rw (here, le-leb min_action_length n a, le-leb n max_action_length b, e, length-drop o s, room)
 
-        pub action-whole : o + 3 + n ≤ length s → 3 + n ≡ field_length (drop o s)
+        pub action-whole : o + 3 + n ≤ length s → Some (3 + n) ≡ field_length (drop o s)
         unfolding field_length action_fits all
         action-whole l =
             let room = le-leb (3 + n) (length s - o) (omega arith) in
             rw (here, le-leb min_action_length n a, le-leb n max_action_length b, e, length-drop o s, room)
 
+-- where the bytes of its length are not there, it does not fit
+fourth-false : (a b c : Bool) → all (a ∷ b ∷ c ∷ false ∷ []) ≡ false
+unfolding all
+fourth-false true true true = refl
+fourth-false true true false = refl
+fourth-false true false c = refl
+fourth-false false b c = refl
+
+pub action-short : (s : List ℕ) (o : ℕ) → length s < o + 3 → None ≡ field_length (drop o s)
+unfolding field_length action_fits
+action-short s o lt =
+    let n = be16 (drop o s) 1 in
+    let room = lt-leb (3 + n) (length s - o) (omega arith) in
+    rw (length-drop o s, room, fourth-false (leb 6 n) (leb n max_action_length) (eqb (n % 2) 0))
+
 -- the length of a decision's own field, by its tag, given whether a field of that length fits
 module _ (s : List ℕ) (o : ℕ) where
   pub header-plain : get_or s o 0 ≡ plain_tag → (b : Bool) → b ≡ field_fits 6 (drop o s) →
-      fork b (λ _. 9) (λ _. 0) ≡ header_size (drop o s)
+      then_some b 9 ≡ header_size (drop o s)
   unfolding header_size header_fits form_read decision_tag decision_length also
-  header-plain t b e = rw (← get_or-from s o, t, e)
+  header-plain t true e = rw (← get_or-from s o, t, ← e)
+  header-plain t false e = rw (← get_or-from s o, t, ← e)
 
   pub header-counted : get_or s o 0 ≡ counted_tag → (b : Bool) → b ≡ field_fits 7 (drop o s) →
-      fork b (λ _. 10) (λ _. 0) ≡ header_size (drop o s)
+      then_some b 10 ≡ header_size (drop o s)
   unfolding header_size header_fits form_read decision_tag decision_length also
-  header-counted t b e = rw (← get_or-from s o, t, e)
+  header-counted t true e = rw (← get_or-from s o, t, ← e)
+  header-counted t false e = rw (← get_or-from s o, t, ← e)
 
-  pub header-other : (get_or s o 0 ≡ plain_tag → ⊥) → (get_or s o 0 ≡ counted_tag → ⊥) → 0 ≡ header_size (drop o s)
+  pub header-other : (get_or s o 0 ≡ plain_tag → ⊥) → (get_or s o 0 ≡ counted_tag → ⊥) → None ≡ header_size (drop o s)
   unfolding header_size header_fits form_read decision_tag also
   header-other p c = rw (← get_or-from s o, ne_eqb (get_or s o 0) 5 c, ne_eqb (get_or s o 0) 3 p)
 
@@ -145,31 +157,31 @@ module _ (s : List ℕ) (o : ℕ) (le : o ≤ length s) (fits : header_fits (dro
   unfolding form_read count_is
   count-plain t n = rw (← get_or-from s o, ne_eqb (get_or s o 0) 5 t)
 
--- what the length of a field says, which is 0 where it does not fit: of an action's field, and of a decision's own
-fitting : (b : Bool) (n l : ℕ) → l ≡ fork b (λ _. 3 + n) (λ _. 0) → 0 < l → (b ≡ true) × (l ≡ 3 + n)
-fitting true n l is some = (refl, is)
-fitting false n l is some = absurd (omega arith)
+-- what the length of a field says: of an action's field, and of a decision's own
+fitting : (b : Bool) (n l : ℕ) → Some l ≡ fork b (λ _. Some (3 + n)) (λ _. None) → (b ≡ true) × (l ≡ 3 + n)
+fitting true n l is = (refl, cc)
+fitting false n l is = cc
 
-unfitting : (b : Bool) (n l : ℕ) → l ≡ fork b (λ _. 3 + n) (λ _. 0) → l ≡ 0 → b ≡ false
-unfitting true n l is none = absurd (omega arith)
-unfitting false n l is none = refl
+unfitting : (b : Bool) (n : ℕ) → None ≡ fork b (λ _. Some (3 + n)) (λ _. None) → b ≡ false
+unfitting true n is = cc
+unfitting false n is = refl
 
-module _ (bs : List ℕ) (l : ℕ) where
-  fits-field : l ≡ field_length bs → 0 < l → (action_fits bs ≡ true) × (l ≡ 3 + be16 bs 1)
+module _ (bs : List ℕ) where
+  fits-field : (l : ℕ) → Some l ≡ field_length bs → (action_fits bs ≡ true) × (l ≡ 3 + be16 bs 1)
   unfolding field_length
-  fits-field = fitting (action_fits bs) (be16 bs 1) l
+  fits-field l = fitting (action_fits bs) (be16 bs 1) l
 
-  field-unfit : l ≡ field_length bs → l ≡ 0 → action_fits bs ≡ false
+  field-unfit : None ≡ field_length bs → action_fits bs ≡ false
   unfolding field_length
-  field-unfit = unfitting (action_fits bs) (be16 bs 1) l
+  field-unfit = unfitting (action_fits bs) (be16 bs 1)
 
-  pub header-fits : l ≡ header_size bs → 0 < l → (header_fits bs ≡ true) × (l ≡ decision_size (form_read bs))
+  pub header-fits : (l : ℕ) → Some l ≡ header_size bs → (header_fits bs ≡ true) × (l ≡ decision_size (form_read bs))
   unfolding header_size
-  header-fits = fitting (header_fits bs) (decision_length (form_read bs)) l
+  header-fits l = fitting (header_fits bs) (decision_length (form_read bs)) l
 
-  pub header-unfit : l ≡ header_size bs → l ≡ 0 → header_fits bs ≡ false
+  pub header-unfit : None ≡ header_size bs → header_fits bs ≡ false
   unfolding header_size
-  header-unfit = unfitting (header_fits bs) (decision_length (form_read bs)) l
+  header-unfit = unfitting (header_fits bs) (decision_length (form_read bs))
 
 -- one action more, none, a bad one, one too many
 module _ (s : List ℕ) (o n : ℕ) where
@@ -282,32 +294,23 @@ module _ (s : List ℕ) (states i o : ℕ) (lt : i < states) where
         decision-counts n count = rw (left-state, ← get_or-from s o, ne_eqb (get_or s o 0) 2 two, past, left, ee, count)
 
 -- the table, one entry more
-pub entry_more : (t ps qs : List ℕ) (i o v : ℕ) (rest : List ℕ) → i < length t → v ≡ o → rest ≡ o ∷ qs →
-    take i t ++ rest ≡ ps → take (i + 1) (set t i v) ++ qs ≡ ps
-entry_more t ps qs i o v rest lt e f h = rw (add-one, take-suc-set t i v lt, append_assoc, e, ← f) h
+entry_more : (t ps qs : List ℕ) (i o : ℕ) (rest : List ℕ) → i < length t → rest ≡ o ∷ qs → take i t ++ rest ≡ ps →
+    take (i + 1) (set t i o) ++ qs ≡ ps
+entry_more t ps qs i o rest lt f h = rw (add-one, take-suc-set t i o lt, append_assoc, ← f) h
 
-pub all-entries : (s t t₀ ps : List ℕ) (states o : ℕ) →
-    take states t ++ offsets_from o (nodes_read (states - states) (drop o s)) ≡ ps → drop states t ≡ drop states t₀ →
-    t ≡ ps ++ drop states t₀
+pub all-entries : (s t ps : List ℕ) (states o : ℕ) → length t ≡ states →
+    take states t ++ offsets_from o (nodes_read (states - states) (drop o s)) ≡ ps → t ≡ ps
 unfolding nodes_read offsets_from
-all-entries s t t₀ ps states o h d =
+all-entries s t ps states o long h =
     let z : states - states ≡ 0 = omega arith in
-    let e : take states t ≡ ps = sym (append-nil (take states t)) ∙ (rw z at h) in
-    sym (take-append-drop states t) ∙ rw (e, d)
+    sym (take_all states t (omega arith)) ∙ sym (append-nil (take states t)) ∙ (rw z at h)
 
-pub content-is : (s : List ℕ) (o a b : ℕ) → a ≡ get_or s (o + 1) 0 → b ≡ get_or s (o + 2) 0 → a * 256 + b ≡ be16 s (o + 1)
-unfolding be16
-content-is s o a b e f = rw (add_assoc o 1 1, e, f)
-
--- What the loop over states carries: state i stands at `at`, and reading on from there is reading from the first state; `right` says
--- whether the numbers of actions written before it are right.
-pub record ReadingStates (s t₀ : List ℕ) (states : ℕ) (t : List ℕ) (at i : ℕ) (right : Bool) : Type 0 where
-  pub upto : i ≤ states
+-- What the loop over states carries: state i stands at `at`, and reading on from there is reading from the first state; the first i of the
+-- entries t are offsets; `right` says whether the numbers of actions written before it are right.
+pub record ReadingStates (s : List ℕ) (states : ℕ) (t : List ℕ) (at i : ℕ) (right : Bool) : Type 0 where
   pub inside : at ≤ length s
-  pub long : length t ≡ length t₀
   pub good : nodes_good states (drop 8 s) ≡ nodes_good (states - i) (drop at s)
   pub entries : take i t ++ offsets_from at (nodes_read (states - i) (drop at s)) ≡ offsets_from 8 (nodes_read states (drop 8 s))
-  pub beyond : drop states t ≡ drop states t₀
   pub counts : counts_right (nodes_read states (drop 8 s)) ≡ also right (λ _. counts_right (nodes_read (states - i) (drop at s)))
 
 -- What the loop over a decision's actions carries, the first of which stands at at₀: n of them are read, and the next stands at `at`.
@@ -318,57 +321,52 @@ pub record ReadingActions (s : List ℕ) (at₀ at n : ℕ) : Type 0 where
   pub long : at₀ + actions_long max_actions (drop at₀ s) ≡ at + actions_long (max_actions - n) (drop at s)
   pub count : length (actions_read max_actions (drop at₀ s)) ≡ n + length (actions_read (max_actions - n) (drop at s))
 
-pub reading_begins : (s t : List ℕ) (states : ℕ) → 8 ≤ length s → ReadingStates s t states t 8 0 true
+pub reading_begins : (s t : List ℕ) (states : ℕ) → 8 ≤ length s → ReadingStates s states t 8 0 true
 unfolding also
 reading_begins s t states le =
-    let z : states - 0 ≡ states = omega arith in
-    record { upto = omega arith; inside = le; long = refl; good = rw z; entries = rw z; beyond = refl; counts = rw z }
+    let z : states - 0 ≡ states = omega arith in record { inside = le; good = rw z; entries = rw z; counts = rw z }
 
 -- all states are read
-pub record Read (s t₀ : List ℕ) (states : ℕ) (t : List ℕ) (at : ℕ) (right : Bool) : Type 0 where
+pub record Read (s : List ℕ) (states : ℕ) (t : List ℕ) (at : ℕ) (right : Bool) : Type 0 where
   pub in_place : eqb at (length s) ≡ nodes_good states (drop 8 s)
   pub counts : right ≡ counts_right (nodes_read states (drop 8 s))
-  pub table : t ≡ offsets_from 8 (nodes_read states (drop 8 s)) ++ drop states t₀
+  pub table : t ≡ offsets_from 8 (nodes_read states (drop 8 s))
 
-pub reading-ends : {s t₀ t : List ℕ} {states at i : ℕ} {right : Bool} → ReadingStates s t₀ states t at i right → i ≡ states →
-    Read s t₀ states t at right
+pub reading-ends : {s t : List ℕ} {states at i : ℕ} {right : Bool} → ReadingStates s states t at i right → length t ≡ states →
+    i ≡ states → Read s states t at right
 unfolding nodes_good nodes_read counts_right
-reading-ends {s} {t₀} {t} {states} {at} {i} {right} h e =
+reading-ends {s} {t} {states} {at} {i} {right} h long e =
     let z : states - i ≡ 0 = omega arith in
     record {
       in_place = sym (h.good ∙ rw (z, length-drop at s) (sym (eqb-left at (length s) h.inside)));
       counts = sym (h.counts ∙ rw z (also-yes right));
-      table = all-entries s t t₀ _ states at (rw e at h.entries) h.beyond;
+      table = all-entries s t _ states at long (rw e at h.entries);
     }
 
--- A turn of the loop over states: there is a state i, and v, where it stands, is stored as entry i.
-pub record Turn (s t₀ : List ℕ) (states : ℕ) (t : List ℕ) (at i v : ℕ) (right : Bool) : Type 0 where
-  pub staging : ReadingStates s t₀ states t at i right
+-- A turn of the loop over states: there is a state i, and where it stands is stored as entry i.
+pub record Turn (s : List ℕ) (states : ℕ) (t : List ℕ) (at i : ℕ) (right : Bool) : Type 0 where
+  pub staging : ReadingStates s states t at i right
   pub below : i < states
-  pub wide : states ≤ length t₀
-  pub entry : v ≡ at
+  pub long : length t ≡ states
 
-module _ {s t₀ t : List ℕ} {states at i v : ℕ} {right : Bool} (g : Turn s t₀ states t at i v right) where
-  h : ReadingStates s t₀ states t at i right
+module _ {s t : List ℕ} {states at i : ℕ} {right : Bool} (g : Turn s states t at i right) where
+  h : ReadingStates s states t at i right
   h = g.staging
 
   -- the state is read up to e, where its number of actions is right or not
   stored : (e : ℕ) (now : Bool) → e ≤ length s → nodes_good (states - i) (drop at s) ≡ nodes_good (states - (i + 1)) (drop e s) →
       offsets_from at (nodes_read (states - i) (drop at s)) ≡ at ∷ offsets_from e (nodes_read (states - (i + 1)) (drop e s)) →
       counts_right (nodes_read (states - i) (drop at s)) ≡ also now (λ _. counts_right (nodes_read (states - (i + 1)) (drop e s))) →
-      ReadingStates s t₀ states (set t i v) e (i + 1) (also right (λ _. now))
+      ReadingStates s states (set t i at) e (i + 1) (also right (λ _. now))
   stored e now le good place counts = record {
-    upto = omega (arith, g.below);
     inside = le;
-    long = simp length-set h.long;
     good = h.good ∙ good;
-    entries = entry_more t _ _ i at v _ (omega (arith, h.long, g.below, g.wide)) g.entry place h.entries;
-    beyond = drop-set-lt states t i v g.below ∙ h.beyond;
+    entries = entry_more t _ _ i at _ (omega (arith, g.below, g.long)) place h.entries;
     counts = h.counts ∙ ap (λ (b : Bool). also right (λ _. b)) counts ∙ also-also right now _;
   }
 
   module _ (two : get_or s at 0 ≡ 2) where
-    pub terminal-read : field_fits 9 (drop at s) ≡ true → ReadingStates s t₀ states (set t i v) (at + 12) (i + 1) right
+    pub terminal-read : field_fits 9 (drop at s) ≡ true → ReadingStates s states (set t i at) (at + 12) (i + 1) right
     unfolding also
     terminal-read f =
         let good = terminal-good s states i at g.below two f in
@@ -379,16 +377,16 @@ module _ {s t₀ t : List ℕ} {states at i v : ℕ} {right : Bool} (g : Turn s 
     pub terminal-out : field_fits 9 (drop at s) ≡ false → nodes_good states (drop 8 s) ≡ false
     terminal-out f = h.good ∙ terminal-bad s states i at g.below two f
 
-  module _ (two : get_or s at 0 ≡ 2 → ⊥) (size : ℕ) (is : size ≡ header_size (drop at s)) where
-    pub header-out : size ≡ 0 → nodes_good states (drop 8 s) ≡ false
-    header-out none = h.good ∙ header-bad s states i at g.below two (header-unfit (drop at s) size is none)
+  module _ (two : get_or s at 0 ≡ 2 → ⊥) where
+    pub header-out : None ≡ header_size (drop at s) → nodes_good states (drop 8 s) ≡ false
+    header-out none = h.good ∙ header-bad s states i at g.below two (header-unfit (drop at s) none)
 
-    module _ (some : 0 < size) where
+    module _ (size : ℕ) (is : Some size ≡ header_size (drop at s)) where
       fits : header_fits (drop at s) ≡ true
-      fits = (header-fits (drop at s) size is some).0
+      fits = (header-fits (drop at s) size is).0
 
       own : size ≡ decision_size (form_read (drop at s))
-      own = (header-fits (drop at s) size is some).1
+      own = (header-fits (drop at s) size is).1
 
       pub reading-actions-begins : ReadingActions s (at + size) (at + size) 0
       reading-actions-begins = record {
@@ -402,7 +400,7 @@ module _ {s t₀ t : List ℕ} {states at i v : ℕ} {right : Bool} (g : Turn s 
       module _ {o n : ℕ} (k : ReadingActions s (at + size) o n) where
         -- no action stands at o: the state is read
         pub decision-read : (get_or s o 0 ≡ 4 → ⊥) →
-            ReadingStates s t₀ states (set t i v) o (i + 1) (also right (λ _. count_is (form_read (drop at s)) n))
+            ReadingStates s states (set t i at) o (i + 1) (also right (λ _. count_is (form_read (drop at s)) n))
         decision-read none =
             let good = k.good ∙ end-good s o n (max_actions - n) none in
             let end : at + size + actions_long max_actions (drop (at + size) s) ≡ o =
@@ -414,21 +412,21 @@ module _ {s t₀ t : List ℕ} {states at i v : ℕ} {right : Bool} (g : Turn s 
             (decision-counts s states i at g.below two size own good o end n count)
 
         -- one stands at o that is the 17th, or does not fit
-        pub action-out : get_or s o 0 ≡ 4 → (n ≡ max_actions) ⊎ (field_length (drop o s) ≡ 0) →
+        pub action-out : get_or s o 0 ≡ 4 → (n ≡ max_actions) ⊎ (None ≡ field_length (drop o s)) →
             nodes_good states (drop 8 s) ≡ false
         action-out four why = h.good ∙ actions-bad s states i at g.below two size own fits (k.good ∙ bad why)
           where
-            bad : (n ≡ max_actions) ⊎ (field_length (drop o s) ≡ 0) → actions_good (max_actions - n) (drop o s) ≡ false
+            bad : (n ≡ max_actions) ⊎ (None ≡ field_length (drop o s)) → actions_good (max_actions - n) (drop o s) ≡ false
             bad (inl many) = many-actions s o n many four
             bad (inr none) =
-                let unfit = field-unfit (drop o s) (field_length (drop o s)) refl none in
+                let unfit = field-unfit (drop o s) none in
                 ⊎_elim (λ many. many-actions s o n many four) (λ l. bad-action s o n l four unfit) (eq-or-lt_of_le k.upto)
 
 -- a turn of the loop over actions
 pub action-read : {s : List ℕ} {at₀ o n l : ℕ} → ReadingActions s at₀ o n → n < max_actions → get_or s o 0 ≡ 4 →
-    l ≡ field_length (drop o s) → 0 < l → ReadingActions s at₀ (o + l) (n + 1)
-action-read {s} {o = o} {n} {l} k lt four e some =
-    let (fits, is) = fits-field (drop o s) l e some in
+    Some l ≡ field_length (drop o s) → ReadingActions s at₀ (o + l) (n + 1)
+action-read {s} {o = o} {n} {l} k lt four e =
+    let (fits, is) = fits-field (drop o s) l e in
     record {
       upto = omega arith;
       inside = action-room s o l k.inside is fits;
@@ -436,19 +434,6 @@ action-read {s} {o = o} {n} {l} k lt four e some =
       long = k.long ∙ more-long s o n lt four l is;
       count = k.count ∙ more-count s o n lt four l is;
     }
-
--- one entry more of a table cleared from `from` on, and all of them
-pub cleared_more : (t₀ t : List ℕ) (from i : ℕ) → from ≤ i → i < length t →
-    take i t ≡ take from t₀ ++ replicate (i - from) 0 → take (i + 1) (set t i 0) ≡ take from t₀ ++ replicate (i + 1 - from) 0
-cleared_more t₀ t from i le l h =
-    let e : i - from + 1 ≡ i + 1 - from = omega arith in
-    let z : ℕ = 0 in
-    let r : replicate (i - from) z ++ (z ∷ []) ≡ replicate (i - from + 1) z = replicate-append-replicate (i - from) 1 z in
-    ap (λ (n : ℕ). take n (set t i 0)) (add-one i) ∙ take-suc-set t i 0 l ∙ rw (h, append_assoc, r, e)
-
-pub cleared-all : (t₀ t : List ℕ) (from i : ℕ) → length t ≤ i → i ≤ max from (length t) → length t ≡ length t₀ →
-    take i t ≡ take from t₀ ++ replicate (i - from) 0 → t ≡ take from t₀ ++ replicate (length t₀ - from) 0
-cleared-all t₀ t from i ge le long h = let e : i - from ≡ length t₀ - from = omega arith in sym (take_all i t ge) ∙ h ∙ rw e
 
 -- question 3 by the tag that is wanted and a limit of states, by the first test that fails
 module _ (wanted limit : ℕ) (s : List ℕ) (le : 8 ≤ length s) where

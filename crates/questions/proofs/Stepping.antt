@@ -1,36 +1,130 @@
 -- A test of every state, of every action of a decision or of every successor of an action, one at a time.
-use Prim.Native.Nat.{ℕ, suc, ◌+◌, ◌*◌, ◌<◌, ◌≤◌}
+use Prim.Native.Nat.{ℕ, suc, ◌+◌, ◌<◌, ◌≤◌}
 use mathlib.Core.Path.{◌≡◌, refl, sym, ap, ◌∙◌}
 use mathlib.Core.Bool.{Bool, true, false}
 use mathlib.Core.List.{List, [], ◌∷◌}
 use native.Mathlib.Omega.{arith}
 use native.Mathlib.Numerals.{add-one}
-use borrow.Author.Tests.{le-leb, lt-leb, leb-true, ltb-true, ltb-false, eqb-true, eqb-false}
+use borrow.Author.Tests.{le-leb, lt-leb, le-ltb, ltb-true, ltb-false}
 use lib.Dec.{leb, ltb, eqb}
-use lib.ListN.{length, get_or, drop, drop_of_length-le}
+use lib.ListN.{length, get_or, drop, length-drop}
 use lib.Seq.{drop-cons}
-use Rattle.model.proofs.TestLaws.{true-also, every-false}
+use Rattle.model.proofs.TestLaws.{true-also, also-yes, also-no, every-false, true-every, every_first}
 use Rattle.model.specs.Tests.{also, all, every}
-use Rattle.model.specs.Problem.{Kind, worst, whole, Action, Form, decision, Problem, Cell, states, node_at, action_at}
+use Rattle.model.specs.Problem.{Action, action, Form, decision, Problem, Cell, states, node_at, action_at}
 use Rattle.model.specs.Problem.{cell_of, value_of, solved}
-use Rattle.model.specs.Format.{terminal_tag, form_of, action_tag, tag_of, actions_of, action_offset}
-use Rattle.model.specs.Read.{action_fits, action_read, problem_of, cells_of}
+use Rattle.model.specs.Format.{terminal_tag, form_of, tag_of, actions_of, action_offset}
+use Rattle.model.specs.Read.{problem_of}
 use Rattle.model.specs.QValue.{q}
-use Rattle.model.specs.Limits.{max_cost, max_actions, no_plan}
-use Rattle.model.specs.Questions.{costs_in_range, apart, ascending, successors_in_order, value_under, all_solved, passed_by}
+use Rattle.model.specs.Limits.{max_cost, no_plan}
+use Rattle.model.specs.Questions.{costs_in_range, ascending, successors_in_order, value_under, all_solved, passed_by}
 use Rattle.model.specs.Questions.{mark_earned}
 use Rattle.layout.specs.Shape.{Inside}
 use Rattle.layout.proofs.Shapes.{member}
-use Rattle.sheet.specs.Sheet.{Sheet, Within, Terminal, Decision, Priced, terminal_cost, of_kind}
-use Rattle.sheet.proofs.Joining.{of-worst, of-whole}
-use Rattle.sheet.proofs.Laws.{actions_at, is-terminal, is-decision, few-actions, action-stands, action-ends}
-use Rattle.sheet.proofs.Laws.{action-is, action-in-place, action-priced, action-after}
+use Rattle.sheet.specs.Sheet.{Below, Place, action_of, Walk, walked, Comes, Steps, terminal_cost}
+use Rattle.sheet.proofs.Laws.{actions_at, is-terminal, is-decision}
 use Rattle.questions.specs.Put.{count_in_range}
+use Rattle.std.proofs.Common.{Option, Some, None}
+use Rattle.std.proofs.iter.Yields.{nat_range_steps}
+use Rattle.std.specs.Bool.{MatchBool}
+use Rattle.std.specs.Fn.{Called}
+use Rattle.std.specs.Iterator.{Yields, AlwaysYields, CallableAtEachTurn, ChecksAll, SkipsThenYields}
+use Rattle.std.specs.Option.{MatchOption}
+use Rattle.std.proofs.lemmas.Iterator.Adapters.{serves_from_places}
+use Rattle.std.proofs.lemmas.List.{get_or_default}
+use Rattle.std.specs.List.{range_with_len, AllWithin, HoldsAt}
+use Rattle.std.proofs.lemmas.Iterator.{YieldsList, cases_from_all, YieldsList-from_range}
+use Rattle.std.proofs.lemmas.List.FromFn.{get_or-range_with_len, length-range_with_len}
+use Rattle.std.specs.declared.ops.Range.{Range}
+use denote.Param.Members.{Mut}
 
 -- every: one more that passes, all of them, one that does not
 pub every_more : (k : ℕ) (f : ℕ → Bool) → every k f ≡ true → f k ≡ true → every (k + 1) f ≡ true
 unfolding every
 every_more k f h g = rw add-one (true-also _ _ h g)
+
+-- What `all` over an iterator's items answers, which v takes to the list `items`, where its closure answers f of each: t is the test of the
+-- item at a place.
+pub every-from_items : {S A B F : Type 0} {steps : S → Option A → S → Type 0} {v : A → B} {g : Mut F (A × Unit {0}) Bool} {s u : S} {h : F}
+    {r : Bool} {items : List B} (d : B) (f : B → Bool) (t : ℕ → Bool) → YieldsList steps v s items →
+    ((i : ℕ) → i < length items → f (get_or items i d) ≡ t i) → ChecksAll steps g s h r u →
+    ((x : A) (b : Bool) (q : F) → Called g h (x, tt) b q → (q ≡ h) × (b ≡ f (v x))) → r ≡ every (length items) t
+every-from_items {B = B} {F} {u = u} {h} {r} {items} d f t road at ran calls =
+    go r (
+    cases_from_all u h r (λ x. f x ≡ true) (λ x. f x ≡ false) ran road (λ x q k. let w = calls x true q k in (w.0, sym w.1))
+    (λ x q k. sym (calls x false q k).1)
+    )
+  where
+    go : (b : Bool) → MatchBool b (AllWithin (λ x. f x ≡ true) items 0 (length items))
+        ((k : ℕ) × (k < length items) × HoldsAt (λ x. f x ≡ false) items k) → b ≡ every (length items) t
+    go true m = sym (true-every (length items) t (λ i lt. sym (at i lt) ∙ m i d (omega arith) lt))
+    go false (k, lt, m) = sym (every-false (length items) t k lt (sym (at k lt) ∙ m d))
+
+-- the same over the numbers below n
+pub every-from_all : {F : Type 0} {g : Mut F (ℕ × Unit {0}) Bool} {s u : Range ℕ} {h : F} {r : Bool} (n : ℕ) (f : ℕ → Bool) →
+    s ≡ record { start = 0; end = n } → ChecksAll nat_range_steps g s h r u →
+    ((x : ℕ) (b : Bool) (q : F) → Called g h (x, tt) b q → (q ≡ h) × (b ≡ f x)) → r ≡ every n f
+every-from_all {F} {g} {s} {u} {h} {r} n f e ran calls =
+    let long : length (range_with_len 0 n) ≡ n = length-range_with_len 0 n in
+    let number : (i : ℕ) → i < length (range_with_len 0 n) → f (get_or (range_with_len 0 n) i 0) ≡ f i =
+    λ i lt. ap f (get_or-range_with_len 0 n i 0 (omega (arith, long)) ∙ (let z : 0 + i ≡ i = omega arith in z)) in
+    every-from_items 0 f f (YieldsList-from_range 0 n n e (omega arith)) number ran calls ∙ ap (λ (k : ℕ). every k f) long
+
+-- what a closure may suppose of each item of an iterator, which v takes to the list `items`
+pub at-each-item : {S A B F : Type 0} {steps : S → Option A → S → Type 0} {v : A → B} {s : S} {items : List B} {R : F → A → F → Type 0}
+    {Q : F → A → Type 0} {f : F} (d : B) → YieldsList steps v s items → ((x : A) (q : F) → R f x q → q ≡ f) →
+    ((x : A) (k : ℕ) → k < length items → v x ≡ get_or items k d → Q f x) → CallableAtEachTurn steps R Q s f
+at-each-item {v = v} {items = items} d road keeps at =
+    serves_from_places road keeps (λ x k lt e. at x k lt (e ∙ get_or_default items k (v x) d lt))
+
+-- a walk over the actions of decision i, from the first
+walk-yields : (w : Walk) (acts : List Action) → drop w.index (walked w) ≡ acts → AlwaysYields Steps action_of w acts
+walk-yields w [] e = λ a j c. absurd (omega (arith, c.more, ap length e, length-drop w.index (walked w)))
+walk-yields w (x ∷ acts) e = (
+  (λ j n. absurd (omega (arith, n.0, ap length e, length-drop w.index (walked w)))),
+  λ a j c.
+      let front = drop-cons (walked w) w.index (action 0 []) c.more in
+      let here : action_of a ≡ x = (let is = c.is in cc) in
+      let more : drop (suc w.index) (walked w) ≡ acts = cc in
+      (here, walk-yields j acts (rw (c.then, add-one) more)),
+)
+
+pub walk-items : {w : Walk} {s : List ℕ} {i : ℕ} → w.bytes ≡ s → w.state ≡ i → w.index ≡ 0 →
+    YieldsList Steps action_of w (actions_at (problem_of s) i)
+walk-items {w} {s} {i} bytes state index =
+    record { runs = walk-yields w (actions_at (problem_of s) i) (rw (index, bytes, state) refl) }
+
+-- where a walk stands after some actions, and what `nth` answers
+walk-after : (xs : List Place) (w t : Walk) → Yields Steps w xs t →
+    t ≡ record { bytes = w.bytes; state = w.state; index = w.index + length xs }
+walk-after [] w t y = let z : w.index + 0 ≡ w.index = omega arith in sym y ∙ rw z refl
+walk-after (x ∷ xs) w t (next, come, rest) =
+    let z : w.index + 1 + length xs ≡ w.index + suc (length xs) = omega arith in
+    walk-after xs next t rest ∙ rw (come.then, z) refl
+
+pub record Nth (s : List ℕ) (i n : ℕ) (r : Option Place) : Type 0 where
+  pub action : Place
+  pub some : r ≡ Some action
+  pub is : action_of action ≡ action_at (actions_at (problem_of s) i) n
+  pub bytes : action.bytes ≡ s
+  pub at : action.at ≡ action_offset (problem_of s) i n
+
+pub walk-nth : {w : Walk} (u : Walk) {s : List ℕ} {i n : ℕ} {r : Option Place} → w.bytes ≡ s → w.state ≡ i → w.index ≡ 0 →
+    SkipsThenYields Steps w n r u → n < length (actions_at (problem_of s) i) → Nth s i n r
+walk-nth {w} u {s} {i} {n} {r} bytes state index (xs, (t, y, step), last) lt = go r step last
+  where
+    stands : t ≡ record { bytes = s; state = i; index = length xs }
+    stands = let z : 0 + length xs ≡ length xs = omega arith in walk-after xs w t y ∙ rw (bytes, state, index, z) refl
+
+    go : (r : Option Place) → Steps t r u → MatchOption r (length xs ≤ n) (λ _. length xs ≡ n) → Nth s i n r
+    go None end le = let all : length xs ≡ length (actions_at (problem_of s) i) = rw stands at end.0 in absurd (omega arith)
+    go (Some a) come e = record {
+      action = a;
+      some = refl;
+      is = rw e at (rw stands at come.is);
+      bytes = rw stands at come.bytes;
+      at = rw e at (rw stands at come.at);
+    }
 
 -- b is the test of all of n
 module _ (n : ℕ) (f : ℕ → Bool) (b : Bool) (is : b ≡ every n f) where
@@ -41,8 +135,11 @@ module _ (n : ℕ) (f : ℕ → Bool) (b : Bool) (is : b ≡ every n f) where
   stepped-out k lt h = sym (is ∙ every-false n f k lt h)
 
 -- the test of action k of decision s: questions 5, 6 and 7
+abbrev pub cost_fits : ℕ → Bool
+cost_fits c = all (leb 1 c ∷ leb c max_cost ∷ [])
+
 abbrev pub cost_of_fits : Problem → ℕ → ℕ → Bool
-cost_of_fits p s k = all (leb 1 (action_at (actions_at p s) k).cost ∷ leb (action_at (actions_at p s) k).cost max_cost ∷ [])
+cost_of_fits p s k = cost_fits (action_at (actions_at p s) k).cost
 
 abbrev pub order_of : Problem → ℕ → ℕ → ℕ → ℕ → ℕ → Bool
 order_of p d low n s k = ascending d low n (action_at (actions_at p s) k).successors
@@ -88,176 +185,101 @@ module _ (p : Problem) (s : ℕ) (tag : tag_of (node_at p s) ≡ terminal_tag �
         go form [] none = refl
         go form (a ∷ more) none = absurd (omega arith)
 
--- a test of which nothing more is asked
-also-yes : (b : Bool) → also (all (true ∷ b ∷ [])) (λ _. true) ≡ b
-unfolding also all
-also-yes true = refl
-also-yes false = refl
+-- Successors in turn, each d or more above the one before it: `last` is the last so far, and another has to be `least` or more. Only the
+-- last has to be compared with n: where the test goes on, the others are no larger.
+pub record Rising (d low n : ℕ) (ts : List ℕ) (last least : ℕ) (left : List ℕ) : Type 0 where
+  pub is : ascending d low n ts ≡ also (ltb last n) (λ _. ascending d least n left)
+  pub under : last ≤ least
 
--- t need not be compared with n where u is, which is t + d or more
-skipped : (d t n u : ℕ) (more : Unit {0} → Bool) →
-    also (all (true ∷ ltb t n ∷ [])) (λ _. also (all (leb (t + d) u ∷ ltb u n ∷ [])) more)
-    ≡ also (all (leb (t + d) u ∷ ltb u n ∷ [])) more
+none-below : (a : Bool) (more : Unit {0} → Bool) → also (all (a ∷ false ∷ [])) more ≡ false
 unfolding also all
-skipped d t n u more = go (ltb t n) (leb (t + d) u) (ltb u n) refl refl refl
+none-below true more = refl
+none-below false more = refl
+
+pub rising-begins : (d low n : ℕ) (ts : List ℕ) → 1 ≤ length ts → Rising d low n ts 0 low ts
+unfolding also ascending
+rising-begins d low n [] some = absurd (omega arith)
+rising-begins d low n (t ∷ ts) some = record { is = go (ltb 0 n) refl; under = omega arith }
   where
-    go : (a b c : Bool) → ltb t n ≡ a → leb (t + d) u ≡ b → ltb u n ≡ c →
-        also (all (true ∷ a ∷ [])) (λ _. also (all (b ∷ c ∷ [])) more) ≡ also (all (b ∷ c ∷ [])) more
-    go true b c _ _ _ = refl
-    go false false c _ _ _ = refl
-    go false true false _ _ _ = refl
-    go false true true e f g = absurd (omega (arith, ltb-false t n e, leb-true (t + d) u f, ltb-true u n g))
+    go : (b : Bool) → ltb 0 n ≡ b → ascending d low n (t ∷ ts) ≡ also b (λ _. ascending d low n (t ∷ ts))
+    go true e = refl
+    go false e = let no : ltb t n ≡ false = le-ltb t n (omega (arith, ltb-false 0 n e)) in rw no (none-below (leb low t) _)
 
--- successors in turn, from number j on
-module _ (ts : List ℕ) (j t : ℕ) (lt : j < length ts) (at : t ≡ get_or ts j 0) where
-  rest : drop j ts ≡ t ∷ drop (j + 1) ts
-  rest = drop-cons ts j 0 lt ∙ rw (add-one, at)
+module _ {d low n last least t : ℕ} {ts left us : List ℕ} (h : Rising d low n ts last least left) (e : left ≡ t ∷ us) where
+  pub rising-out : t < least → false ≡ ascending d low n ts
+  unfolding ascending all also
+  rising-out lt = sym (h.is ∙ rw (e, lt-leb least t lt) (also-no (ltb last n)))
 
-  module _ (d least n : ℕ) where
-    pub too-low : t < least → false ≡ ascending d least n (drop j ts)
-    unfolding ascending also all
-    too-low a = rw (rest, lt-leb least t a)
+  -- the next is t + d, or t is not below n
+  pub rising-more : {next : ℕ} → least ≤ t → t ≤ next → (t < n → next ≡ t + d) → Rising d low n ts t next us
+  unfolding ascending all also
+  rising-more {next} le up sum = record { is = h.is ∙ rw e (go (ltb last n) (ltb t n) refl refl); under = up }
+    where
+      go : (a b : Bool) → ltb last n ≡ a → ltb t n ≡ b →
+          also a (λ _. ascending d least n (t ∷ us)) ≡ also b (λ _. ascending d next n us)
+      go true true p q = rw (le-leb least t le, q, sum (ltb-true t n q))
+      go true false p q = rw (le-leb least t le, q)
+      go false true p q = absurd (omega (arith, h.under, ltb-false last n p, ltb-true t n q))
+      go false false p q = refl
 
-    -- the last of them is compared with n, and one before it need not be: another, which is as large, is
-    pub last-below : least ≤ t → j + 1 ≡ length ts → ltb t n ≡ ascending d least n (drop j ts)
-    unfolding ascending
-    last-below a e = rw (rest, le-leb least t a, drop_of_length-le ts {i = j + 1} (omega arith)) (sym (also-yes (ltb t n)))
+pub rising-ends : {d low n last least : ℕ} {ts left : List ℕ} → Rising d low n ts last least left → left ≡ [] →
+    ltb last n ≡ ascending d low n ts
+unfolding ascending
+rising-ends {n = n} {last = last} h e = sym (h.is ∙ rw e (also-yes (ltb last n)))
 
-    pub ascends : least ≤ t → j + 1 < length ts → ascending d least n (drop j ts) ≡ ascending d (t + d) n (drop (j + 1) ts)
-    unfolding ascending
-    ascends a more = rw (rest, le-leb least t a, drop-cons ts (j + 1) 0 more) (skipped d t n _ _)
+-- the test of all successors of an action, one by one
+pub solved-all : (cells : List Cell) (ts : List ℕ) → every (length ts) (λ i. solved (cell_of cells (get_or ts i 0))) ≡ all_solved cells ts
+unfolding all_solved every
+solved-all cells [] = refl
+solved-all cells (t ∷ ts) = every_first (length ts) (λ i. solved (cell_of cells (get_or (t ∷ ts) i 0))) ∙ rw (solved-all cells ts)
 
-  module _ (cells : List Cell) where
-    pub solved-more : solved (cell_of cells t) ≡ true → all_solved cells (drop j ts) ≡ all_solved cells (drop (j + 1) ts)
-    unfolding all_solved also
-    solved-more h = rw (rest, h)
+-- the successors of an action are states, where all are
+pub inside-below : (p : Problem) (s : ℕ) → (tag_of (node_at p s) ≡ terminal_tag → ⊥) → Inside p → (k : ℕ) →
+    Below (states p) (action_at (actions_at p s) k).successors
+inside-below p s tag inside k j lj = inside s k _ (form_of (node_at p s)) (actions_at p s) (node p s tag) (member _ j lj)
 
-    pub solved-not : solved (cell_of cells t) ≡ false → false ≡ all_solved cells (drop j ts)
-    unfolding all_solved also
-    solved-not h = rw (rest, h)
+-- A loop that counts the actions of decision i: w is the walk over them, of which n have come, with costs in range.
+pub record Counting (s : List ℕ) (i : ℕ) (w : Walk) (n : ℕ) : Type 0 where
+  pub walk : w ≡ record { bytes = s; state = i; index = n }
+  pub fit : every n (cost_of_fits (problem_of s) i) ≡ true
 
-pub solved-end : (ts : List ℕ) (cells : List Cell) (j : ℕ) → length ts ≤ j → all_solved cells (drop j ts) ≡ true
-unfolding all_solved
-solved-end ts cells j le = rw (drop_of_length-le ts le)
+pub counting-begins : {s : List ℕ} {i : ℕ} {w : Walk} → w.bytes ≡ s → w.state ≡ i → w.index ≡ 0 → Counting s i w 0
+unfolding every
+counting-begins bytes state index = record { walk = λ k. record { bytes = bytes k; state = state k; index = index k }; fit = refl }
 
-pub cost-low : (c : ℕ) → c < 1 → all (leb 1 c ∷ leb c max_cost ∷ []) ≡ false
-unfolding all
-cost-low c h = rw (lt-leb 1 c h)
+module _ {s : List ℕ} {i n : ℕ} {w : Walk} (h : Counting s i w n) where
+  module _ {a : Place} {w' : Walk} (come : Comes w a w') where
+    pub counting-stands : n < length (actions_at (problem_of s) i)
+    counting-stands = rw h.walk at come.more
 
-pub cost-high : (c : ℕ) → 1 ≤ c → max_cost < c → all (leb 1 c ∷ leb c max_cost ∷ []) ≡ false
-unfolding all
-cost-high c g h = rw (le-leb 1 c g, lt-leb c max_cost h)
+    cost_is : (action_of a).cost ≡ (action_at (actions_at (problem_of s) i) n).cost
+    cost_is = ap (λ (x : Action). x.cost) (rw h.walk at come.is)
 
-pub cost-fits : (c : ℕ) → 1 ≤ c → c ≤ max_cost → all (leb 1 c ∷ leb c max_cost ∷ []) ≡ true
-unfolding all
-cost-fits c g h = rw (le-leb 1 c g, le-leb c max_cost h)
+    pub counting-more : {cost : ℕ} → cost ≡ (action_of a).cost → cost_fits cost ≡ true → Counting s i w' (n + 1)
+    counting-more is fits = record {
+      walk = come.then ∙ rw h.walk refl;
+      fit = every_more n _ h.fit (rw (is ∙ cost_is) at fits);
+    }
 
--- successors by their places, where they are states
-below : (p : Problem) (s : ℕ) → (tag_of (node_at p s) ≡ terminal_tag → ⊥) → Inside p →
-    (k : ℕ) → (j : ℕ) → j < length (action_at (actions_at p s) k).successors →
-    get_or (action_at (actions_at p s) k).successors j 0 < states p
-below p s tag inside k j lj = inside s k _ (form_of (node_at p s)) (actions_at p s) (node p s tag) (member _ j lj)
+    pub counting-out : (tag_of (node_at (problem_of s) i) ≡ terminal_tag → ⊥) → {cost : ℕ} → cost ≡ (action_of a).cost →
+        cost_fits cost ≡ false → None ≡ count_in_range (node_at (problem_of s) i)
+    unfolding count_in_range
+    counting-out tag is out =
+        rw (sym (stepped-out _ _ _ (costs-are (problem_of s) i tag) n counting-stands (rw (is ∙ cost_is) at out)))
 
--- A loop over the actions of decision i: action k stands at o.
-pub record Along (s : List ℕ) (i k o : ℕ) : Type 0 where
-  pub upto : k ≤ length (actions_at (problem_of s) i)
-  pub at : o ≡ action_offset (problem_of s) i k
-
-module _ {s t : List ℕ} {i : ℕ} (d : Decision s t i) where
-  h : Sheet s t (problem_of s) (cells_of s)
-  h = d.within.sheet
-
-  -- it has at most 16 actions
-  pub few : length (actions_at (problem_of s) i) ≤ max_actions
-  few = few-actions h i d.within.below d.tag
-
-  pub along-begins : (o : ℕ) → o ≡ action_offset (problem_of s) i 0 → Along s i 0 o
-  along-begins o e = record { upto = omega arith; at = e }
-
-  module _ {k o : ℕ} (a : Along s i k o) where
-    pub along-stands : (b : Bool) → b ≡ eqb (get_or s o 0) action_tag → b ≡ true → k < length (actions_at (problem_of s) i)
-    along-stands b e g = action-stands h i d.within.below d.tag k o a.at a.upto (sym e ∙ g)
-
-    pub along-ends : (b : Bool) → b ≡ eqb (get_or s o 0) action_tag → b ≡ false → length (actions_at (problem_of s) i) ≤ k
-    along-ends b e g = action-ends h i d.within.below d.tag k o a.at (sym e ∙ g)
-
-    module _ (lk : k < length (actions_at (problem_of s) i)) where
-      pub along-fits : action_fits (drop o s) ≡ true
-      along-fits = action-in-place h i d.within.below d.tag k o a.at lk
-
-      pub along-is : action_read (drop o s) ≡ action_at (actions_at (problem_of s) i) k
-      along-is = action-is h i d.within.below d.tag k o a.at lk
-
-      pub along-next : (r : ℕ) → r ≡ o + 7 + 2 * length (action_read (drop o s)).successors → Along s i (k + 1) r
-      along-next r e = record { upto = omega arith; at = action-after h i d.within.below d.tag k o a.at lk r e }
-
-      -- it can be priced where successors are states
-      pub along-priced : Inside (problem_of s) → Priced s t o
-      along-priced inside = action-priced h i d.within.below d.tag k o a.at lk (below (problem_of s) i d.tag inside k)
-
-  -- the count, from the test of all costs
-  pub counted-all : (k : ℕ) → every k (cost_of_fits (problem_of s) i) ≡ true →
-      k ≤ length (actions_at (problem_of s) i) → length (actions_at (problem_of s) i) ≤ k → k ≡ count_in_range (node_at (problem_of s) i)
+  pub counting-ends : (tag_of (node_at (problem_of s) i) ≡ terminal_tag → ⊥) → w.index ≡ length (walked w) →
+      Some n ≡ count_in_range (node_at (problem_of s) i)
   unfolding count_in_range
-  counted-all k g le ge = rw (sym (all-stepped _ _ _ (costs-are (problem_of s) i d.tag) k g le ge)) (omega arith)
+  counting-ends tag end =
+      let all : n ≡ length (actions_at (problem_of s) i) = (rw h.walk at end) in
+      rw (sym (all-stepped _ _ _ (costs-are (problem_of s) i tag) n h.fit (omega arith) (omega arith))) (ap Some all)
 
-  pub counted_none : (k : ℕ) → k < length (actions_at (problem_of s) i) → cost_of_fits (problem_of s) i k ≡ false →
-      suc max_actions ≡ count_in_range (node_at (problem_of s) i)
-  unfolding count_in_range
-  counted_none k lt g = rw (sym (stepped-out _ _ _ (costs-are (problem_of s) i d.tag) k lt g))
+-- questions 6 and 7 at a terminal
+module _ (p : Problem) (s : ℕ) (tag : tag_of (node_at p s) ≡ terminal_tag) where
+  pub order-terminal : (d low n : ℕ) → true ≡ successors_in_order d low n (node_at p s)
+  unfolding successors_in_order
+  order-terminal d low n = rw (is-terminal (node_at p s) tag)
 
--- a state by its tag
-module _ {s t : List ℕ} {i : ℕ} (w : Within s t i) (b : Bool) (e : b ≡ eqb (tag_of (node_at (problem_of s) i)) terminal_tag) where
-  pub terminal-from : b ≡ true → Terminal s t i
-  terminal-from g = record { within = w; tag = eqb-true _ _ (sym e ∙ g) }
-
-  pub decision-from : b ≡ false → Decision s t i
-  decision-from g = record { within = w; tag = eqb-false _ _ (sym e ∙ g) }
-
--- question 7 at a terminal, and of one action
-pub under-terminal : {s t : List ℕ} {i : ℕ} → Terminal s t i →
-    leb (value_of (cells_of s) i) (terminal_cost (node_at (problem_of s) i)) ≡
-    value_under (problem_of s) (cells_of s) i (node_at (problem_of s) i)
-unfolding value_under terminal_cost
-under-terminal {s} {t} {i} d = rw (is-terminal (node_at (problem_of s) i) d.tag)
-
-module _ {s t : List ℕ} {i k o : ℕ} (d : Decision s t i) (a : Along s i k o) (lk : k < length (actions_at (problem_of s) i))
-    {value price : ℕ} (v : value ≡ value_of (cells_of s) i)
-    (x : price ≡ q (problem_of s).kind (value_of (cells_of s)) (action_read (drop o s))) where
-  priced : price ≡ q (problem_of s).kind (value_of (cells_of s)) (action_at (actions_at (problem_of s) i) k)
-  priced = x ∙ rw (along-is d a lk)
-
-  pub price-over : price < value → price_over (problem_of s) (cells_of s) i k ≡ false
-  price-over lt = lt-leb _ _ (rw (v, priced) at lt)
-
-  pub price-under : value ≤ price → price_over (problem_of s) (cells_of s) i k ≡ true
-  price-under le = le-leb _ _ (rw (v, priced) at le)
-
--- question 6 at a terminal
-pub order-terminal : {s t : List ℕ} {i : ℕ} → Terminal s t i → (d low n : ℕ) →
-    true ≡ successors_in_order d low n (node_at (problem_of s) i)
-unfolding successors_in_order
-order-terminal {s} {t} {i} h d low n = rw (is-terminal (node_at (problem_of s) i) h.tag)
-
--- how far apart successors are, at the least, by the byte of a sheet's kind
-apart_of : (k : Kind) → apart k ≡ of_kind k 1 0
-unfolding apart of_kind
-apart_of worst = refl
-apart_of whole = refl
-
-pub worst-apart : (s : List ℕ) → get_or s 3 0 ≡ 0 → apart (problem_of s).kind ≡ 1
-worst-apart s e = apart_of (problem_of s).kind ∙ sym (of-worst s 1 0 e)
-
-pub whole_apart : (s : List ℕ) → (get_or s 3 0 ≡ 0 → ⊥) → apart (problem_of s).kind ≡ 0
-whole_apart s ne = apart_of (problem_of s).kind ∙ sym (of-whole s 1 0 ne)
-
--- questions 6 and 7 of a decision
-module _ {s t : List ℕ} {i : ℕ} (d : Decision s t i) where
-  pub order-of : (e low n : ℕ) →
-      successors_in_order e low n (node_at (problem_of s) i) ≡
-      every (length (actions_at (problem_of s) i)) (order_of (problem_of s) e low n i)
-  order-of e low n = order_is (problem_of s) i d.tag e low n
-
-  pub under_of : value_under (problem_of s) (cells_of s) i (node_at (problem_of s) i) ≡
-      every (length (actions_at (problem_of s) i)) (price_over (problem_of s) (cells_of s) i)
-  under_of = under-is (problem_of s) i d.tag (cells_of s)
+  pub under-terminal : (cells : List Cell) → leb (value_of cells s) (terminal_cost (node_at p s)) ≡ value_under p cells s (node_at p s)
+  unfolding value_under terminal_cost
+  under-terminal cells = rw (is-terminal (node_at p s) tag)

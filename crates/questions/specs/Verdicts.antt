@@ -1,18 +1,16 @@
 -- The verdict on a sheet and its number: 0 where no question is answered no, and else the number of the first that is.
-use Rattle.std.specs.Prelude.{ℕ, zero, suc, ◌≡◌, true, List}
+use Rattle.std.specs.Prelude.{ℕ, zero, suc, ◌≡◌, true, List, Result, Ok, Err}
 use Rattle.model.specs.Questions.{answer_at, First, check_questions}
-use Rattle.questions.specs.declared.Verdict.{Verdict}
-use Rattle.questions.specs.declared.Verdict.TheVariants.{Accepted, Refused}
 
 -- the number of each case
-abbrev pub verdict_number : Verdict → ℕ
-verdict_number Accepted = 0
-verdict_number (Refused n) = n
+abbrev pub verdict_number : Result (Unit {0}) ℕ → ℕ
+verdict_number (Ok _) = 0
+verdict_number (Err n) = n
 
 -- the case of each number
-unfoldable pub verdict : ℕ → Verdict
-verdict zero = Accepted
-verdict (suc n) = Refused (suc n)
+unfoldable pub verdict : ℕ → Result (Unit {0}) ℕ
+verdict zero = Ok tt
+verdict (suc n) = Err (suc n)
 
 -- What a verdict of that number says of all questions but that on the budget: accepted, 0, that every answer is yes; else the number of
 -- the first that is no.

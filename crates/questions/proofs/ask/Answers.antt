@@ -1,28 +1,28 @@
-use native.Mathlib.Omega.{arith}
 use mathlib.Core.Path.{◌≡◌}
-use lib.ListN.{length}
+use Rattle.std.proofs.Common.{rules}
+use Rattle.model.specs.Questions.{first_no, sheet_questions_under}
 use Rattle.questions.specs.Table.{served_by}
-use Rattle.questions.proofs.Asking.{accepted-table, refused-table}
+use Rattle.questions.specs.Verdicts.{verdict}
+use Rattle.questions.proofs.Asking.{answer-is, accepted-table, refused-table}
 use Rattle.questions.proofs.ask.Goals as goal
-use Rattle.questions.proofs.ask.Goals.{After-first_no-n}
+use Rattle.questions.proofs.ask.Goals.{After-ask_under-asked}
+use lib.ListN.{length}
 
-limit-of : (c : After-first_no-n) → c.served-limit.result ≡ served_by (length c.args.table.now)
-limit-of c = c.served-limit.ensures
+-- the verdict under the limit that the table serves
+asked : (c : After-ask_under-asked) → c.ask_under-asked.result ≡
+    verdict (first_no (sheet_questions_under (served_by (length c.args.table.now)) c.args.sheet.now))
+asked c = rw c.served.ensures at c.ask_under-asked.ensures.value
 
-pub first_no-n-requires : goal.first_no-n-requires
-first_no-n-requires c = (omega (arith, c.served-limit.ensures), omega (arith, c.served-limit.ensures))
+pub returns-then-is_err : goal.returns-then-is_err
+returns-then-is_err c =
+    let is = asked (goal.at.returns-then-is_err c).After-ask_under-asked in record {
+      answer = answer-is c.args.sheet.now c.args.table.now _ is;
+      table = refused-table c.args.sheet.now c.args.table.now _ is c.clear.new.table (search rules) (search rules);
+    }
 
-pub returns-then-n-eq0 : goal.returns-then-n-eq0
-returns-then-n-eq0 c =
-    let no = rw (limit-of (goal.at.returns-then-n-eq0 c).After-first_no-n) at c.first_no-n.ensures in
-    let both = accepted-table c.args.sheet.now c.args.table.now c.first_no-n.result no.value _ c.if-n-eq0.true
-    (no.table_after c.if-n-eq0.true) in
-    record { answer = both.0; table = both.1 }
-
-pub returns-else-n-eq0 : goal.returns-else-n-eq0
-returns-else-n-eq0 c =
-    let is = rw (limit-of (goal.at.returns-else-n-eq0 c).After-first_no-n) at c.first_no-n.ensures.value in
-    let long : length c.first_no-n.new.table ≡ length c.args.table.now = omega arith in
-    let both = refused-table c.args.sheet.now c.args.table.now c.first_no-n.result is c.first_no-n.new.table _ c.if-n-eq0.false long
-    c.clear.ensures in
-    record { answer = both.0; table = both.1 }
+pub returns-else-is_err : goal.returns-else-is_err
+returns-else-is_err c =
+    let is = asked (goal.at.returns-else-is_err c).After-ask_under-asked in record {
+      answer = answer-is c.args.sheet.now c.args.table.now _ is;
+      table = accepted-table c.args.sheet.now c.args.table.now _ is _ (search rules) c.ask_under-asked.ensures.table_after;
+    }

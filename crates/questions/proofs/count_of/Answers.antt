@@ -4,5 +4,4 @@ use Rattle.layout.proofs.Index.{states-read}
 use Rattle.questions.proofs.count_of.Goals as goal
 
 pub returns : goal.returns
-returns c =
-    (c.word_to_index.ensures.0 ∙ c.get16.ensures.0 ∙ sym (states-read _), omega (arith, c.word_to_index.ensures.0, c.get16.ensures))
+returns c = (c.from.ensures ∙ c.get16.ensures ∙ sym (states-read _), omega (arith, c.from.ensures))

@@ -1,24 +1,28 @@
-use mathlib.Core.Path.{◌≡◌, ◌∙◌, ap}
-use native.Mathlib.Omega.{arith}
+use Rattle.std.proofs.Common.{◌≡◌, ◌∙◌}
 use Rattle.model.specs.Problem.{cell_of}
-use Rattle.model.specs.Format.{action_offset}
-use Rattle.model.specs.Read.{problem_of, cells_of}
+use Rattle.model.specs.Read.{cells_of}
+use Rattle.questions.proofs.Stepping.{Nth, walk-nth}
 use Rattle.questions.proofs.states.chosen_action.Goals as goal
-use Rattle.questions.proofs.states.chosen_action.Goals.{After-word_to_index-chosen}
+use Rattle.questions.proofs.states.chosen_action.Goals.{After-nth, After-unwrap}
 
--- the number of the chosen action
-chosen : (c : After-word_to_index-chosen) → c.word_to_index-chosen.result ≡ (cell_of (cells_of c.args.sheet.now) c.args.state).chosen
-chosen c = c.word_to_index-chosen.ensures.0 ∙ c.byte_to_word.ensures.0 ∙ c.chosen_at.ensures
+nth : (c : After-nth) → Nth c.args.sheet.now c.args.state (cell_of (cells_of c.args.sheet.now) c.args.state).chosen c.nth.result
+nth c =
+    let chosen : c.from-chosen.result ≡ (cell_of (cells_of c.args.sheet.now) c.args.state).chosen =
+    c.from-chosen.ensures ∙ c.chosen.ensures in
+    walk-nth _ c.actions.ensures.0 c.actions.ensures.1 c.actions.ensures.2 (rw chosen at c.nth.ensures.ran) c.requires.state_in_bounds
 
-pub action_at-requires : goal.action_at-requires
-action_at-requires c =
-    let decided = c.requires.decision in
-    let exists = c.requires.state_in_bounds in record {
-      decision = decided;
-      i_in_bounds = omega (arith, chosen c, exists);
-    }
+pub unwrap-requires : goal.unwrap-requires
+unwrap-requires c = rw (nth c).some
 
-pub returns : goal.returns
-returns c =
-    c.action_at.ensures ∙ ap (action_offset (problem_of c.args.sheet.now) c.args.state)
-    (chosen (goal.at.returns c).After-word_to_index-chosen)
+-- it is the one that `unwrap` gives
+same : (c : After-unwrap) → (n : Nth c.args.sheet.now c.args.state (cell_of (cells_of c.args.sheet.now) c.args.state).chosen c.nth.result) →
+    n.action ≡ c.unwrap.result
+same c n = let some = n.some in cc
+
+pub returns-clause-is : goal.returns-clause-is
+returns-clause-is c =
+    let n = nth (goal.at.returns-clause-is c).After-nth in rw (same c n) at n.is
+
+pub returns-clause-place : goal.returns-clause-place
+returns-clause-place c =
+    let n = nth (goal.at.returns-clause-place c).After-nth in (rw (same c n) at n.bytes, rw (same c n) at n.at)
