@@ -16,13 +16,13 @@ use Rattle.model.specs.Demands.{Accepted, start_cell, Demand1, Demand2, Demand3}
 use Rattle.theory.proofs.Refusals.{first-is, none_is}
 use Rattle.theory.proofs.Called.{made-call}
 use Rattle.theory.proofs.Demands.{demand1, demand2, demand3, all-raises-few, work-ends}
-use Rattle.questions.specs.declared.Verdict.{Verdict}
+use Rattle.std.proofs.Common.{Result}
 use Rattle.questions.specs.Verdicts.{verdict_number, verdict, VerdictSays, accepted, refused}
 use Rattle.questions.proofs.Asking.{verdict-number}
 use Rattle.ldfs.specs.Made.{Solved, SolvedAll, none, one}
 
 -- The verdict of `check`, by what its contract ensures, in the numbers of S4.
-pub check-answers : (s : List ℕ) (entries : ℕ) {v : Verdict} → v ≡ verdict (sheet_refusal s entries) →
+pub check-answers : (s : List ℕ) (entries : ℕ) {v : Result (Unit {0}) ℕ} → v ≡ verdict (sheet_refusal s entries) →
     VerdictSays s entries (verdict_number v)
 unfolding sheet_refusal_under
 check-answers s entries e = rw (e, verdict-number) (go (sheet_refusal s entries) refl)

@@ -11,7 +11,7 @@ use Rattle.model.specs.declared.Outcome.{Outcome}
 use Rattle.model.specs.declared.Outcome.TheVariants.{Settled, Over, Stopped, None}
 use Rattle.model.specs.Tests.{fork}
 use Rattle.model.specs.Problem.{Cell, states, cell_of, value_of, solved}
-use Rattle.model.specs.Format.{Bytes, head_tag, be16, offset, write}
+use Rattle.model.specs.Format.{Bytes, head_tag, write}
 use Rattle.model.specs.Read.{problem_of, cells_of}
 use Rattle.model.specs.Limits.{ceiling, max_states}
 use Rattle.model.specs.Questions.{question9, Question, question, check_questions_under, first_no}
@@ -24,40 +24,28 @@ use Rattle.layout.proofs.Index.{states-within, offsets-count}
 use Rattle.theory.proofs.LimitLaws.{SheetYes, by_number, sheet-raised, yes-accepted, refusals-left, room-yes, room-no}
 use Rattle.theory.proofs.Accepted.{asked-problem, asked-cells}
 use Rattle.theory.proofs.Sheets.{Stands, accepted-stands}
-use Rattle.sheet.specs.Sheet.{Within}
-use Rattle.sheet.proofs.Laws.{indexed, nine-room}
-use Rattle.questions.specs.declared.Verdict.TheVariants.{Accepted, Refused as RefusedBy}
+use Rattle.sheet.specs.Sheet.{Sheet}
+use Rattle.sheet.proofs.Laws.{indexed}
+use Rattle.std.proofs.Common.{Ok, Err}
 use Rattle.questions.specs.Verdicts.{verdict}
 use Rattle.questions.specs.Table.{indexed_before, served_by, served_refusal, asked_table}
-use Rattle.questions.proofs.Asking.{cleared, cleared-zeros, cleared-length, from-cleared, served-most}
-use Rattle.search.specs.declared.visits.Way.{Way}
-use Rattle.search.specs.declared.visits.Way.TheVariants.{Success, Failure, Halt}
+use Rattle.questions.proofs.Asking.{cleared, from-cleared, served-most}
 use Rattle.search.specs.declared.passes.Passes.{Passes as PassesMade}
 use Rattle.ldfs.specs.Made.{Finished, filled_table, Filled, SolvedUnder, Solved}
-use Rattle.search.specs.Did.{search, visit_of, Workable, DidPasses}
-
--- the start's number, and the head's bytes, of a sheet
-pub start_is : (s : List ℕ) → be16 s 6 ≡ (problem_of s).start
-unfolding problem_of
-start_is s = refl
-
-pub head-room : {s t : List ℕ} {i : ℕ} → Within s t i → 8 ≤ length s
-unfolding offset
-head-room {s} {t} {i} w = omega (arith, nine-room w.sheet i w.below, w.sheet.table i w.below)
+use Rattle.search.specs.Did.{last_pass, Workable, DidPasses}
 
 -- The answer of work that is done.
-search-of : (cells : List Cell) (way : Way) (r : ℕ) → search_of (visit_of cells way r) ≡ search cells r
-search-of cells Success r = refl
-search-of cells Failure r = refl
-search-of cells Halt r = refl
+search-of : (succeeded : Bool) (w : Search) → search_of (last_pass succeeded w) ≡ w
+search-of true w = refl
+search-of false w = refl
 
 module _ (s : List ℕ) (budget : ℕ) {t s' : List ℕ} {w : PassesMade}
     (d : DidPasses t (problem_of s) s' w (work (problem_of s) (cells_of s) budget)) where
   cells_left : cells_after (work (problem_of s) (cells_of s) budget) ≡ cells_of s'
-  cells_left = rw (← d.said) (ap (λ (v : Search). v.cells) (search-of (cells_of s') w.way w.raises))
+  cells_left = rw (← d.said) (ap (λ (v : Search). v.cells) (search-of w.succeeded _))
 
   raises-made : raises_of (work (problem_of s) (cells_of s) budget) ≡ w.raises
-  raises-made = rw (← d.said) (ap (λ (v : Search). v.raises) (search-of (cells_of s') w.way w.raises))
+  raises-made = rw (← d.said) (ap (λ (v : Search). v.raises) (search-of w.succeeded _))
 
   begun-made : (work (problem_of s) (cells_of s) budget).begun ≡ w.begun
   begun-made = rw (← d.said)
@@ -104,6 +92,16 @@ refused-more (ask ∷ asked) more k h = go (ask.answer tt) refl (refused-more as
     go true e ih = rw e (ih (rw e at h))
     go false e ih = rw e (rw e at h)
 
+-- what the questions about the sheet leave where every answer is yes: the sheet holds bytes, and the table is t'
+pub record Asked (s t t' : List ℕ) : Type 0 where
+  pub yes : Ok tt ≡ verdict (served_refusal s t)
+  pub bytes : Bytes s
+  pub table : t' ≡ asked_table s t
+
+-- a call's contract, clause by clause
+pub clauses : {A B C : Type 0} → A × (B × C) → record { answer : A; sheet : B; table : C }
+clauses f = record { answer = f.0; sheet = f.1.0; table = f.1.1 }
+
 module _ (s t : List ℕ) (budget : ℕ) where
   -- the limit that the table serves, and the refusal under it
   abbrev limit : ℕ
@@ -124,70 +122,70 @@ module _ (s t : List ℕ) (budget : ℕ) where
   worked-call e s' t' r f last = rw e (f.said, (f.bytes, last))
 
   -- refused by a question about the sheet
-  pub refused-by : (n : ℕ) → RefusedBy n ≡ verdict (served_refusal s t) → (r : Answer) → r ≡ refused budget n →
+  pub refused-by : (n : ℕ) → Err n ≡ verdict (served_refusal s t) → (r : Answer) → r ≡ refused budget n →
       (t' : List ℕ) → t' ≡ asked_table s t → Filled s t budget r s t'
   unfolding verdict asked_table sheet_refusal_under refusal_under on_refusal
   refused-by n e r a t' last = go (served_refusal s t) refl e
     where
-      go : (k : ℕ) → served_refusal s t ≡ k → RefusedBy n ≡ verdict k → Filled s t budget r s t'
+      go : (k : ℕ) → served_refusal s t ≡ k → Err n ≡ verdict k → Filled s t budget r s t'
       go zero z v = let f : ◌≡◌ {A = ℕ} 0 1 = cc in absurd (omega arith)
       go (suc k) z v =
           let same : n ≡ suc k = cc in
           let no = refused-more (check_questions_under limit s (length t)) (question 9 (λ _. question9 budget) ∷ []) k z in
           refused-call k no r (a ∙ ap (refused budget) same) t' (last ∙ rw z)
 
-  -- accepted by the questions about the sheet
-  module _ (e : Accepted ≡ verdict (served_refusal s t)) (byte : Bytes s) where
-    none : served_refusal s t ≡ 0
-    unfolding verdict
-    none = go (served_refusal s t) e
-      where
-        go : (k : ℕ) → Accepted ≡ verdict k → k ≡ 0
-        go zero v = refl
-        go (suc k) v = let f : ◌≡◌ {A = ℕ} 0 1 = cc in absurd (omega arith)
+-- accepted by the questions about the sheet
+module _ {s t t' : List ℕ} (asked : Asked s t t') where
+  none : served_refusal s t ≡ 0
+  unfolding verdict
+  none = go (served_refusal s t) asked.yes
+    where
+      go : (k : ℕ) → Ok tt ≡ verdict k → k ≡ 0
+      go zero v = refl
+      go (suc k) v = let f : ◌≡◌ {A = ℕ} 0 1 = cc in absurd (omega arith)
 
-    yes : AllYes (check_questions_under limit s (length t))
-    unfolding sheet_refusal_under
-    yes = none-no (check_questions_under limit s (length t)) refl none
+  yes : AllYes (check_questions_under (served_by (length t)) s (length t))
+  unfolding sheet_refusal_under
+  yes = none-no (check_questions_under (served_by (length t)) s (length t)) refl none
 
-    sheet-yes : SheetYes limit s
-    sheet-yes = by_number limit s yes.1
+  sheet-yes : SheetYes (served_by (length t)) s
+  sheet-yes = by_number (served_by (length t)) s yes.1
 
-    stands : Stands s (problem_of s) (cells_of s)
-    stands = accepted-stands s byte (yes-accepted max_states s (sheet-raised (omega arith) s sheet-yes))
+  stands : Stands s (problem_of s) (cells_of s)
+  stands = accepted-stands s asked.bytes (yes-accepted max_states s (sheet-raised (omega arith) s sheet-yes))
 
-    by-budget : refusal-served ≡ fork (question9 budget) (λ _. 0) (λ _. 9)
-    by-budget = refusals-left limit s sheet-yes (length t) budget ∙ rw yes.0
+  by-budget : (budget : ℕ) → refusal_under (served_by (length t)) s (length t) budget ≡ fork (question9 budget) (λ _. 0) (λ _. 9)
+  by-budget budget = refusals-left (served_by (length t)) s sheet-yes (length t) budget ∙ rw yes.0
 
-    module _ (t' : List ℕ) (asked : t' ≡ asked_table s t) where
-      filled : t' ≡ indexed_before s t
-      unfolding asked_table on_refusal
-      filled = asked ∙ rw none
+  filled : t' ≡ indexed_before s t
+  unfolding asked_table on_refusal
+  filled = asked.table ∙ rw none
 
-      -- the table is long enough, and as long as it was
-      enough : states (problem_of s) ≤ length t
-      enough = omega (arith, states-within head_tag s yes.1.1.0)
+  -- the table is long enough, and as long as it was
+  enough : states (problem_of s) ≤ length t
+  enough = omega (arith, states-within head_tag s yes.1.1.0)
 
-      long : length t' ≡ length t
-      long = rw (filled, length-append, offsets-count 8 (problem_of s).nodes, length-drop) (omega (arith, enough))
+  long : length t' ≡ length t
+  long = rw (filled, length-append, offsets-count 8 (problem_of s).nodes, length-drop) (omega (arith, enough))
 
-      pub start-within : Within s t' (problem_of s).start
-      start-within = record { sheet = indexed _ stands.is stands.asked.shaped filled; below = stands.asked.shaped.start }
+  pub in_place : Sheet s t' (problem_of s) (cells_of s)
+  in_place = indexed _ stands.is stands.asked.shaped filled
 
-      pub workable : Workable s
-      workable = record {
-        formed = asked-problem (problem_of s) (cells_of s) stands.asked;
-        consistent = asked-cells (problem_of s) (cells_of s) stands.asked;
-      }
+  pub workable : Workable s
+  workable = record {
+    formed = asked-problem (problem_of s) (cells_of s) stands.asked;
+    consistent = asked-cells (problem_of s) (cells_of s) stands.asked;
+  }
 
-      pub no-budget : budget ≡ 0 → (r : Answer) → r ≡ refused budget 9 → (t'' : List ℕ) → t'' ≡ cleared t' →
-          Filled s t budget r s t''
-      unfolding question9 refused_table
-      no-budget z r a t'' last = refused-call 8 (by-budget ∙ rw z) r a t'' (last ∙ cleared-zeros t' ∙ rw long)
+  pub no-budget : {budget : ℕ} → budget ≡ 0 → {r : Answer} → r ≡ refused budget 9 → {t'' : List ℕ} → t'' ≡ cleared t' →
+      Filled s t budget r s t''
+  unfolding question9 refused_table
+  no-budget {budget} z {r} a {t''} last = refused-call s t budget 8 (by-budget budget ∙ rw z) r a t'' (last ∙ rw long)
 
-      pub worked : (budget ≡ 0 → ⊥) → (s' : List ℕ) (r : Answer) → Finished s s' r budget → Filled s t budget r s' t'
-      unfolding question9
-      worked z s' r f = worked-call (by-budget ∙ rw (le-leb 1 budget (omega arith))) s' t' r f filled
+  pub worked : {budget : ℕ} → (budget ≡ 0 → ⊥) → {s' : List ℕ} {r : Answer} → Finished s s' r budget → Filled s t budget r s' t'
+  unfolding question9
+  worked {budget} z {s'} {r} f =
+      worked-call s t budget (by-budget budget ∙ rw (le-leb 1 budget (omega arith))) s' t' r f filled
 
 -- From a table that was cleared to any table.
 module _ (s t : List ℕ) (budget : ℕ) where
@@ -199,7 +197,7 @@ module _ (s t : List ℕ) (budget : ℕ) where
       SolvedUnder (served_by (length t)) s t budget r s' t'
   unfolding filled_table table_under
   from-zeros f =
-      let long = cleared-length t in
+      let long : length (cleared t) ≡ length t = length-replicate (length t) 0 in
       let limit = served_by (length t) in
       let number = room-yes limit s (length t) budget (omega arith) in
       let table = rw long at f.1.1 in
@@ -215,6 +213,6 @@ pub zeros-solved : (s : List ℕ) (budget m : ℕ) → m ≤ max_states → {r :
     Filled s (replicate m 0) budget r s' t' →
     SolvedUnder m s (replicate m 0) budget r s' t'
 zeros-solved s budget m few f =
-    let same : cleared (replicate m 0) ≡ replicate m 0 = cleared-zeros (replicate m 0) ∙ rw length-replicate in
+    let same : cleared (replicate m 0) ≡ replicate m 0 = rw length-replicate in
     let limit : served_by (length {A = ℕ} (replicate m 0)) ≡ m = rw (length-replicate {A = ℕ} m 0) (omega arith) in
     rw limit at (from-zeros s (replicate m 0) budget (rw (sym same) at f))

@@ -3,18 +3,17 @@
 
 ghost use Rattle.std.specs.Prelude.{◌≡◌, length};
 ghost use Rattle.model.specs.Problem.{Cell, solved};
-ghost use Rattle.model.specs.Read.{problem_of};
+ghost use Rattle.model.specs.Read.{problem_of, cells_of};
 ghost use Rattle.model.specs.Report.{outcome_of, refused, answer_to, bytes_after, table_after};
-ghost use Rattle.sheet.specs.Sheet.{Within};
+ghost use Rattle.sheet.specs.Sheet.{Sheet};
 ghost use Rattle.search.specs.Did.{Workable};
 ghost use Rattle.ldfs.specs.Made.{Finished, served_answer, served_bytes, filled_table};
 
-use model::{Answer, BUDGET, LONG_CEILING, MAX_STATES, Outcome, ROOM, format};
-use questions::{Verdict, ask, clear};
+use model::refusal::Question;
+use model::{Answer, LONG_CEILING, MAX_STATES, Outcome};
+use questions::ask;
 use search::passes::work;
-use sheet::convert::{word_to_index, word_to_long};
-use sheet::fields::{solved_at, value_at};
-use sheet::numbers::get16;
+use sheet::fields::Indexed;
 
 // The answer of a call with a budget that is refused by a question's number.
 pub fn refusal(n: u32, budget: u64) -> Answer
@@ -48,15 +47,16 @@ fn outcome(marked: bool, price: u64) -> Outcome
 
 // The work of a call on an accepted sheet, and its answer.
 fn finish(sheet: &mut [u8], table: &[u32], budget: u64) -> Answer
-    requires within { Within sheet.old table.now (problem_of sheet.old).start }
+    requires in_place { Sheet sheet.old table.now (problem_of sheet.old) (cells_of sheet.old) }
     requires workable { Workable sheet.old }
     ensures { Finished sheet.old sheet.new result budget }
 {
-    let start = word_to_index(get16(sheet, format::START_IN));
+    let start = Indexed::new(sheet, table).start();
     let w = work(sheet, table, start, budget);
-    let price = word_to_long(value_at(sheet, table, start));
+    let worked = Indexed::new(sheet, table);
+    let price = u64::from(worked.value(start));
     Answer {
-        outcome: outcome(solved_at(sheet, table, start), price),
+        outcome: outcome(worked.is_solved(start), price),
         price,
         passes: w.begun,
         raises: w.raises,
@@ -72,13 +72,12 @@ pub fn solve_zeroed(sheet: &mut [u8], table: &mut [u32], budget: u64) -> Answer
     ensures sheet { sheet.new ≡ served_bytes sheet.old table.old budget }
     ensures table { table.new ≡ filled_table sheet.old table.old budget }
 {
-    let v = ask(sheet, table);
-    match v {
-        Verdict::Refused(n) => refusal(n, budget),
-        Verdict::Accepted => {
+    match ask(sheet, table) {
+        Err(by) => refusal(by.number(), budget),
+        Ok(()) => {
             if budget == 0 {
-                clear(table, 0);
-                refusal(BUDGET, budget)
+                table.fill(0);
+                refusal(Question::Budget.number(), budget)
             } else {
                 finish(sheet, table, budget)
             }
@@ -94,8 +93,8 @@ pub fn solve(sheet: &mut [u8], table: &mut [u32], budget: u64) -> Answer
     ensures table { table.new ≡ table_after sheet.old table.old budget }
 {
     if table.len() < MAX_STATES {
-        return refusal(ROOM, budget);
+        return refusal(Question::Room.number(), budget);
     }
-    clear(table, 0);
+    table.fill(0);
     solve_zeroed(sheet, table, budget)
 }

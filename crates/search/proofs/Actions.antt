@@ -7,11 +7,11 @@ use native.Mathlib.Omega.{arith}
 use lib.ListN.{length, get_or, drop}
 use Rattle.model.specs.Problem.{Problem, Cell, states, node_at, action_at}
 use Rattle.model.specs.Format.{be16, terminal_tag, tag_of, action_offset}
-use Rattle.model.specs.Read.{action_fits, action_read}
+use Rattle.model.specs.Read.{action_fits, action_read, problem_of}
 use Rattle.model.specs.Limits.{max_actions}
 use Rattle.layout.proofs.Actions.{successor-of}
 use Rattle.layout.proofs.Shapes.{member}
-use Rattle.sheet.specs.Sheet.{Sheet, Priced}
+use Rattle.sheet.specs.Sheet.{Sheet, Priced, IsDecision, Place, action_of, Leads, Walk, Comes}
 use Rattle.sheet.proofs.Laws.{is-decision, actions_at, few-actions, action-is, action-in-place, action-priced, action-after}
 use Rattle.theory.specs.Consistent.{WellFormed}
 
@@ -57,3 +57,22 @@ module _ {p : Problem} {i n o : ℕ} (u : Turn p i n o) where
         let is : f ≡ get_or (action_at (actions_at p i) n).successors j 0 = e ∙ sym (rw turn_is at read) in
         let l = later j lt in
         (is, omega (arith, is, l), omega (arith, is, l))
+
+-- where an action ends that is seen at its place
+pub action-ended : {s : List ℕ} {o r : ℕ} {a : Place} → (a.bytes ≡ s) × (a.at ≡ o) → r ≡ a.at + 7 + 2 * length (action_of a).successors →
+    r ≡ o + 7 + 2 * length (action_read (drop o s)).successors
+action-ended e ends = rw (e.0, e.1) at ends
+
+-- The next action of a walk over the actions of decision i of the sheet s.
+module _ {s : List ℕ} {i : ℕ} {w w' : Walk} {a : Place} (bytes : w.bytes ≡ s) (state : w.state ≡ i) (h : Comes w a w') where
+  pub comes-more : w.index < length (actions_at (problem_of s) i)
+  comes-more = rw (bytes, state) at h.more
+
+  pub comes-is : action_of a ≡ action_at (actions_at (problem_of s) i) w.index
+  comes-is = rw (bytes, state) at h.is
+
+  pub comes-then : w' ≡ record { bytes = s; state = i; index = w.index + 1 }
+  comes-then = rw (bytes, state) at h.then
+
+  pub comes-leads : WellFormed (problem_of s) → IsDecision s i → Leads s a
+  comes-leads formed d = rw comes-is (λ j lt. (formed.forward i w.index _ _ (is-decision _ d.tag) (member _ j lt)).1)

@@ -22,9 +22,8 @@ use Rattle.theory.proofs.Leads.{Ready, Leads, stay, then}
 use Rattle.theory.proofs.Visits.{abandoned-leads}
 use Rattle.theory.proofs.Turns.{visit-decision, actions_from, action-skipped, action-passes, action-fails, action-halts, actions-end}
 use Rattle.search.specs.declared.kept.Kept.{Kept}
-use Rattle.search.specs.declared.visits.Way.{Way}
-use Rattle.search.specs.declared.visits.Way.TheVariants.{Success, Failure, Halt}
 use Rattle.search.specs.declared.visits.Visited.{Visited}
+use Rattle.search.specs.declared.visits.Visited.TheVariants.{Success, Failure, Halt}
 use Rattle.search.specs.declared.visits.OpenDecision.{OpenDecision}
 use Rattle.search.specs.Did.{visit_of, visiting, trying, Workable, Did}
 use Rattle.search.specs.Keeps.{Keeps}
@@ -154,52 +153,52 @@ module _ {t : List ℕ} {p : Problem} {budget : ℕ} {d : OpenDecision} {s₀ : 
           cheap = rw (problem-is m.sheet) (omega (arith, priced m.sheet is));
         }
 
-        module _ (le : x ≤ d.value) {s' : List ℕ} {v : Visited}
-            (g : Did t (problem_of s) s' v (trying (problem_of s) budget i n (reached s r))) where
+        module _ (le : x ≤ d.value) where
           cheap : price_at p (reached s r) (action_at (actions_at p i) n) ≤ value_at (reached s r) i
           cheap = omega (arith, w.now, priced m.sheet is, held m.leads)
-
-          own : Did t p s' v (trying p budget i n (reached s r))
-          own = rw (problem-is m.sheet) at g
-
-          tried : (way : Way) → v.way ≡ way → trying p budget i n (reached s r) ≡ visit_of (cells_of s') way v.raises
-          tried way e = sym own.said ∙ (rw e)
 
           ran : to i (reached s₀ r₀) ≡ actions_from p budget to i (actions_at p i) n (reached s r)
           ran = m.run (omega (arith, u.exists))
 
-          pub succeeds : v.way ≡ Success → {v' : Visited} → (v'.way ≡ Success) × (v'.raises ≡ v.raises) →
-              Did t p s' v' (visiting p budget i (reached s₀ r₀))
-          succeeds e says =
-              did own.sheet (sym (ran ∙ action-passes p budget to i (actions_at p i) n _ _ u.exists cheap (tried Success e))) says
+          -- the action is tried, with the answer v
+          module _ {s' : List ℕ} {v : Visited} (g : Did t (problem_of s) s' v (trying (problem_of s) budget i n (reached s r))) where
+            own : Did t p s' v (trying p budget i n (reached s r))
+            own = rw (problem-is m.sheet) at g
 
-          pub halts : v.way ≡ Halt → {v' : Visited} → (v'.way ≡ Halt) × (v'.raises ≡ v.raises) →
-              Did t p s' v' (visiting p budget i (reached s₀ r₀))
-          halts e says =
-              did own.sheet (sym (ran ∙ action-halts p budget to i (actions_at p i) n _ _ u.exists cheap (tried Halt e))) says
+            tried : trying p budget i n (reached s r) ≡ visit_of (cells_of s') v
+            tried = sym own.said
+
+          -- it did not fail
+          pub ends-so : {s' : List ℕ} (v : Visited) → Did t (problem_of s) s' v (trying (problem_of s) budget i n (reached s r)) →
+              ((r' : ℕ) → v ≡ Failure r' → ⊥) → Did t p s' v (visiting p budget i (reached s₀ r₀))
+          ends-so (Success r') g other =
+              did (own g).sheet (sym (ran ∙ action-passes p budget to i (actions_at p i) n _ _ u.exists cheap (tried g)))
+          ends-so (Failure r') g other = absurd (other r' refl)
+          ends-so (Halt r') g other =
+              did (own g).sheet (sym (ran ∙ action-halts p budget to i (actions_at p i) n _ _ u.exists cheap (tried g)))
 
           -- abandoned: the action is priced at once, at y, and the next stands at o'
-          module _ (e : v.way ≡ Failure) where
-            since : Leads p budget (suc i) (reached s r) (reached s' v.raises)
+          module _ {s' : List ℕ} {r' : ℕ} (g : Did t (problem_of s) s' (Failure r') (trying (problem_of s) budget i n (reached s r))) where
+            since : Leads p budget (suc i) (reached s r) (reached s' r')
             since =
                 abandoned-leads p w.formed budget i n (actions_at p i) (is-decision (node_at p i) w.tag) _ _ m.leads.ready cheap
-                (tried Failure e)
+                (tried g)
 
             pub abandons : {y : ℕ} → y ≡ q (problem_of s').kind (value_of (cells_of s')) (action_read (drop o s')) →
                 {o' : ℕ} → o' ≡ o + 7 + 2 * length (action_read (drop o s)).successors →
                 {kept' : Kept} → (kept'.fresh ≡ y) × (kept'.old ≡ min kept.old kept.fresh) →
-                Acting t p budget i s₀ r₀ s' v.raises (n + 1) o' kept'
+                Acting t p budget i s₀ r₀ s' r' (n + 1) o' kept'
             abandons anew next now-kept = record {
-              sheet = own.sheet;
+              sheet = (own g).sheet;
               leads = then m.leads since;
               upto = omega (arith, u.exists);
               place = turn-next u m.sheet _ next;
               first = λ z. absurd (omega arith);
               run = λ has.
-                  m.run has ∙ rw add-one (action-fails p budget to i (actions_at p i) n _ _ u.exists cheap (tried Failure e));
+                  m.run has ∙ rw add-one (action-fails p budget to i (actions_at p i) n _ _ u.exists cheap (tried g));
               keeps =
                   keeps-abandoned m.keeps _ (λ k. q-mono p.kind _ _ (action_at (actions_at p i) k) (λ f z. since.rises f))
-                  (priced own.sheet anew) now-kept;
+                  (priced (own g).sheet anew) now-kept;
             }
 
         -- skipped: nothing changes but what is kept

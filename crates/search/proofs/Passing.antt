@@ -1,23 +1,24 @@
 -- What the passes of one call carry from one to the next, and how a pass may end.
 use Prim.Native.Nat.{ℕ, suc, ◌+◌, ◌-◌, ◌<◌, ◌≤◌}
 use mathlib.Core.Path.{◌≡◌, refl, ◌∙◌, sym}
+use mathlib.Core.Bool.{true, false}
 use mathlib.Core.List.{List}
 use native.Mathlib.Omega.{arith}
 use native.Mathlib.Numerals.{add-one}
 use Rattle.model.specs.Problem.{Problem, states}
-use Rattle.model.specs.Read.{cells_of}
+use Rattle.model.specs.Read.{problem_of, cells_of}
 use Rattle.model.specs.Ldfs.{work_by, work}
 use Rattle.sheet.specs.Sheet.{Sheet}
+use Rattle.sheet.proofs.Laws.{problem-is}
 use Rattle.theory.specs.Consistent.{WellFormed, Consistent}
 use Rattle.theory.proofs.LimitLaws.{values-few}
 use Rattle.theory.proofs.Leads.{Leads, stay, then}
 use Rattle.theory.proofs.Work.{leads-bounded}
 use Rattle.theory.proofs.Turns.{passes_from, pass-succeeds, pass-fails, pass-halts}
-use Rattle.search.specs.declared.visits.Way.{Way}
-use Rattle.search.specs.declared.visits.Way.TheVariants.{Success, Failure, Halt}
 use Rattle.search.specs.declared.visits.Visited.{Visited}
-use Rattle.search.specs.Did.{visit_of, visiting, Did, DidPasses}
-use Rattle.search.proofs.Trying.{reached, ended, ends}
+use Rattle.search.specs.declared.visits.Visited.TheVariants.{Success, Failure, Halt}
+use Rattle.search.specs.Did.{visiting, Did, DidPasses}
+use Rattle.search.proofs.Trying.{reached, ends}
 
 -- n passes have failed since the call began with the bytes s₀; now the bytes are s, with r raises
 pub record Passing (t : List ℕ) (p : Problem) (budget : ℕ) (s₀ s : List ℕ) (n r : ℕ) : Type 0 where
@@ -46,47 +47,45 @@ bounded {p} {budget} {s₀} {s} {r} l =
     let few = leads-bounded p budget p.start (reached s₀ 0) (reached s r) refl l.leads in
     omega (arith, l.few, values-few (states p) l.sheet.shaped.most, few)
 
--- one more pass
-pub record Passed (t : List ℕ) (p : Problem) (budget : ℕ) (s₀ s : List ℕ) (n r : ℕ) (s' : List ℕ) (v : Visited) : Type 0 where
-  pub passing : Passing t p budget s₀ s n r
-  pub visited : Did t p s' v (visiting p budget p.start (reached s r))
+module _ {t : List ℕ} {p : Problem} {budget : ℕ} {s₀ s : List ℕ} {n r : ℕ} (g : Passing t p budget s₀ s n r)
+    {start : ℕ} (at : start ≡ p.start) where
+  -- one more pass leaves the bytes s', with the answer v
+  abbrev Passed : List ℕ → Visited → Type 0
+  Passed s' v = Did t (problem_of s) s' v (visiting (problem_of s) budget start (reached s r))
 
-module _ {t : List ℕ} {p : Problem} {budget : ℕ} {s₀ s : List ℕ} {n r : ℕ} {s' : List ℕ} {v : Visited}
-    (g : Passed t p budget s₀ s n r s' v) where
+  own : {s' : List ℕ} {v : Visited} → Passed s' v → Did t p s' v (visiting p budget p.start (reached s r))
+  own d = rw (at, problem-is g.sheet) at d
+
   budgeted : n ≤ budget
-  budgeted = omega (arith, g.passing.few, g.passing.leads.ready.within)
+  budgeted = omega (arith, g.few, g.leads.ready.within)
 
-  went : (way : Way) → v.way ≡ way → visiting p budget p.start (reached s r) ≡ visit_of (cells_of s') way v.raises
-  went = ended g.passing.formed g.passing.formed.starts g.passing.leads.ready g.visited
-
-  pub succeeds : v.way ≡ Success →
-      DidPasses t p s' (record { way = Success; begun = n + 1; raises = v.raises }) (work p (cells_of s₀) budget)
-  succeeds e = record {
-    sheet = g.visited.sheet;
-    said =
-        sym (g.passing.run ∙ rw add-one (pass-succeeds p budget n (reached s r) (reached s' v.raises) budgeted (went Success e)));
+  pub succeeds : {s' : List ℕ} {r' : ℕ} → Passed s' (Success r') →
+      DidPasses t p s' (record { succeeded = true; begun = n + 1; raises = r' }) (work p (cells_of s₀) budget)
+  succeeds d = record {
+    sheet = (own d).sheet;
+    said = sym (g.run ∙ rw add-one (pass-succeeds p budget n (reached s r) _ budgeted (sym (own d).said)));
   }
 
-  pub halts : v.way ≡ Halt →
-      DidPasses t p s' (record { way = Halt; begun = n + 1; raises = v.raises }) (work p (cells_of s₀) budget)
-  halts e = record {
-    sheet = g.visited.sheet;
-    said = sym (g.passing.run ∙ rw add-one (pass-halts p budget n (reached s r) (reached s' v.raises) budgeted (went Halt e)));
+  pub halts : {s' : List ℕ} {r' : ℕ} → Passed s' (Halt r') →
+      DidPasses t p s' (record { succeeded = false; begun = n + 1; raises = r' }) (work p (cells_of s₀) budget)
+  halts d = record {
+    sheet = (own d).sheet;
+    said = sym (g.run ∙ rw add-one (pass-halts p budget n (reached s r) _ budgeted (sym (own d).said)));
   }
 
-  module _ (e : v.way ≡ Failure) where
-    gains : Leads p budget p.start (reached s r) (reached s' v.raises) × (r < v.raises)
-    gains = ends g.passing.formed g.passing.formed.starts g.passing.leads.ready g.visited Failure e
+  module _ {s' : List ℕ} {r' : ℕ} (d : Passed s' (Failure r')) where
+    gains : Leads p budget p.start (reached s r) (reached s' r') × (r < r')
+    gains = ends g.formed g.formed.starts g.leads.ready (own d)
 
     -- what is left of the budget falls
-    pub falls : budget - v.raises < budget - r
+    pub falls : budget - r' < budget - r
     falls = omega (arith, gains.1, gains.0.ready.within)
 
-    pub fails : Passing t p budget s₀ s' (n + 1) v.raises
+    pub fails : Passing t p budget s₀ s' (n + 1) r'
     fails = record {
-      sheet = g.visited.sheet;
-      formed = g.passing.formed;
-      leads = then g.passing.leads gains.0;
-      few = omega (arith, g.passing.few, gains.1);
-      run = g.passing.run ∙ rw add-one (pass-fails p budget n (reached s r) (reached s' v.raises) budgeted (went Failure e));
+      sheet = (own d).sheet;
+      formed = g.formed;
+      leads = then g.leads gains.0;
+      few = omega (arith, g.few, gains.1);
+      run = g.run ∙ rw add-one (pass-fails p budget n (reached s r) _ budgeted (sym (own d).said));
     }

@@ -1,6 +1,6 @@
 -- What the loop over an action's successors carries, and each way through a turn of it.
 use Prim.Native.Nat.{ℕ, suc, ◌+◌, ◌<◌, ◌≤◌}
-use mathlib.Core.Path.{◌≡◌, refl, ◌∙◌, sym, subst}
+use mathlib.Core.Path.{◌≡◌, refl, ◌∙◌, sym}
 use mathlib.Core.List.{List}
 use native.Mathlib.Omega.{arith}
 use native.Mathlib.Numerals.{add-one}
@@ -9,7 +9,7 @@ use Rattle.model.specs.Problem.{Action, Problem, Cell, states, action_at, value_
 use Rattle.model.specs.Read.{problem_of, cells_of, action_read}
 use Rattle.model.specs.QValue.{q}
 use Rattle.model.specs.Ldfs.{Search, Visit, success, failure, value_at, price_at}
-use Rattle.sheet.specs.Sheet.{Sheet}
+use Rattle.sheet.specs.Sheet.{Sheet, Priced}
 use Rattle.sheet.proofs.Laws.{problem-is, actions_at}
 use Rattle.theory.specs.Consistent.{WellFormed, Consistent}
 use Rattle.theory.proofs.QValueLaws.{q-same}
@@ -17,11 +17,10 @@ use Rattle.theory.proofs.Leads.{Ready, Leads, stay, then, wider, value-of}
 use Rattle.theory.proofs.Visits.{Visited as Ends, visit-does}
 use Rattle.theory.proofs.Turns.{successors_from, successor-halts, successor-fails, successor-dear, successor-passes, successors-end}
 use Rattle.theory.proofs.Turns.{try-passes, try-fails, try-halts}
-use Rattle.search.specs.declared.visits.Way.{Way}
-use Rattle.search.specs.declared.visits.Way.TheVariants.{Success, Failure, Halt}
 use Rattle.search.specs.declared.visits.Visited.{Visited}
+use Rattle.search.specs.declared.visits.Visited.TheVariants.{Success, Failure, Halt}
 use Rattle.search.specs.Did.{search, visit_of, visiting, trying, Workable, Did}
-use Rattle.search.proofs.Actions.{Turn, turn_is, later}
+use Rattle.search.proofs.Actions.{Turn, turn_is, turn-priced, later}
 use Rattle.search.proofs.Updates.{did}
 
 abbrev pub reached : List ℕ → ℕ → Search
@@ -35,14 +34,10 @@ pub back : {s s' t : List ℕ} {p : Problem} {cells cells' : List Cell} → Shee
     Sheet s' t (problem_of s) cells' → Sheet s' t p cells'
 back h g = rw (problem-is h) at g
 
--- how a visit to f ended, by the way it says
-module _ {s t : List ℕ} {p : Problem} {v : Visited} {budget f : ℕ} {w : Search} (wf : WellFormed p) (state : f < states p)
-    (ready : Ready p budget w) (d : Did t p s v (visiting p budget f w)) (way : Way) (e : v.way ≡ way) where
-  pub ended : visiting p budget f w ≡ visit_of (cells_of s) way v.raises
-  ended = sym d.said ∙ (rw e)
-
-  pub ends : Ends p budget f w.raises w (visit_of (cells_of s) way v.raises)
-  ends = subst (λ (o : Visit). Ends p budget f w.raises w o) ended (visit-does p wf budget (states p) f w (omega arith) state ready)
+-- how a visit to f ended, by its answer
+pub ends : {s t : List ℕ} {p : Problem} {v : Visited} {budget f : ℕ} {w : Search} → WellFormed p → f < states p →
+    Ready p budget w → Did t p s v (visiting p budget f w) → Ends p budget f w.raises w (visit_of (cells_of s) v)
+ends {p} {budget} {f} {w} wf state ready d = rw d.said (visit-does p wf budget (states p) f w (omega arith) state ready)
 
 -- the value of a state stays while later ones are visited
 pub held : {p : Problem} {budget i : ℕ} {w w' : Search} → Leads p budget (suc i) w w' → value_at w' i ≡ value_at w i
@@ -78,72 +73,85 @@ module _ {t : List ℕ} {p : Problem} {budget i n o value : ℕ} {s₀ : List �
 
   -- every successor has passed, and the decision is marked
   pub succeeds : {s : List ℕ} {r j : ℕ} → Trying t p budget i a s₀ r₀ s r j → j ≡ length a.successors →
-      {s' : List ℕ} → Sheet s' t p (set_solved (cells_of s) i n) → {v : Visited} → (v.way ≡ Success) × (v.raises ≡ r) →
-      Did t p s' v (trying p budget i n (reached s₀ r₀))
-  succeeds {s} {r} l e h says =
+      {s' : List ℕ} → Sheet s' t p (set_solved (cells_of s) i n) → Did t p s' (Success r) (trying p budget i n (reached s₀ r₀))
+  succeeds {s} {r} l e h =
       let all : successors_from p budget to i a 0 (reached s₀ r₀) ≡ success (reached s r) =
       l.run ∙ rw e (successors-end p budget to i a (reached s r)) in
-      did h (sym (try-passes p budget to i (actions_at p i) n (reached s₀ r₀) (reached s r) all)) says
+      did h (sym (try-passes p budget to i (actions_at p i) n (reached s₀ r₀) (reached s r) all))
 
-  -- successor j, which is f, is visited, and leaves the bytes s'
-  module _ {s : List ℕ} {r j : ℕ} (l : Trying t p budget i a s₀ r₀ s r j) (exists : j < length a.successors) {f : ℕ}
-      (is : f ≡ get_or a.successors j 0)
-      {s' : List ℕ} {v : Visited} (d : Did t p s' v (visiting p budget f (reached s r))) where
-    after : f < states p
-    after = let z = later b.turn j exists in omega (arith, is, z)
+-- the loop stands at successor j, which there is: f
+pub record Standing (t : List ℕ) (p : Problem) (budget i n o value : ℕ) (s₀ : List ℕ) (r₀ : ℕ) (s : List ℕ) (r j f : ℕ) : Type 0 where
+  pub begun : Begun t p budget i n o value s₀ r₀
+  pub trying : Trying t p budget i (action_at (actions_at p i) n) s₀ r₀ s r j
+  pub exists : j < length (action_at (actions_at p i) n).successors
+  pub is : f ≡ get_or (action_at (actions_at p i) n).successors j 0
 
-    went : (way : Way) → v.way ≡ way → to (get_or a.successors j 0) (reached s r) ≡ visit_of (cells_of s') way v.raises
-    went way e = rw (← is) (ended b.turn.formed after l.leads.ready d way e)
+module _ {t : List ℕ} {p : Problem} {budget i n o value : ℕ} {s₀ : List ℕ} {r₀ : ℕ} {s : List ℕ} {r j f : ℕ}
+    (h : Standing t p budget i n o value s₀ r₀ s r j f) where
+  -- it is a later state
+  pub ahead : (i < f) × (f < states p)
+  ahead = let z = later h.begun.turn j h.exists in (omega (arith, h.is, z), omega (arith, h.is, z))
 
-    did-it : (way : Way) → v.way ≡ way → Ends p budget f r (reached s r) (visit_of (cells_of s') way v.raises)
-    did-it = ends b.turn.formed after l.leads.ready d
+  abbrev tried : Action
+  tried = action_at (actions_at p i) n
 
-    -- what was answered of the action
-    abandoned : {v' : Visited} → (v'.way ≡ Failure) × (v'.raises ≡ v.raises) →
-        successors_from p budget to i a j (reached s r) ≡ failure (reached s' v.raises) →
-        Did t p s' v' (trying p budget i n (reached s₀ r₀))
-    abandoned says e = did d.sheet (sym (try-fails p budget to i (actions_at p i) n _ _ (l.run ∙ e))) says
+  -- it is visited, with the answer v
+  module _ {s' : List ℕ} {v : Visited} (d : Did t (problem_of s) s' v (visiting (problem_of s) budget f (reached s r))) where
+    own : Did t p s' v (visiting p budget f (reached s r))
+    own = rw (problem-is h.trying.sheet) at d
 
-    pub fails : v.way ≡ Failure → {v' : Visited} → (v'.way ≡ Failure) × (v'.raises ≡ v.raises) →
-        Did t p s' v' (trying p budget i n (reached s₀ r₀))
-    fails e says = abandoned says (successor-fails p budget to i a j _ _ exists (went Failure e))
+    went : visiting p budget (get_or tried.successors j 0) (reached s r) ≡ visit_of (cells_of s') v
+    went = rw (← h.is) (sym own.said)
 
-    pub halts : v.way ≡ Halt → {v' : Visited} → (v'.way ≡ Halt) × (v'.raises ≡ v.raises) →
-        Did t p s' v' (trying p budget i n (reached s₀ r₀))
-    halts e says =
-        let run = l.run ∙ successor-halts p budget to i a j _ _ exists (went Halt e) in
-        did d.sheet (sym (try-halts p budget to i (actions_at p i) n _ _ run)) says
+  -- what was answered of the action
+  abandoned : {s' : List ℕ} {r' : ℕ} → Sheet s' t p (cells_of s') →
+      successors_from p budget (visiting p budget) i tried j (reached s r) ≡ failure (reached s' r') →
+      Did t p s' (Failure r') (trying p budget i n (reached s₀ r₀))
+  abandoned l e = did l (sym (try-fails p budget (visiting p budget) i (actions_at p i) n _ _ (h.trying.run ∙ e)))
 
-    module _ (e : v.way ≡ Success) where
-      since : Leads p budget (suc i) (reached s r) (reached s' v.raises)
-      since = let z = later b.turn j exists in wider (omega (arith, is, z)) (did-it Success e).0
+  -- the visit did not succeed
+  pub stops : {s' : List ℕ} (v : Visited) → Did t (problem_of s) s' v (visiting (problem_of s) budget f (reached s r)) →
+      ((r' : ℕ) → v ≡ Success r' → ⊥) → Did t p s' v (trying p budget i n (reached s₀ r₀))
+  stops (Success r') d other = absurd (other r' refl)
+  stops (Failure r') d other = abandoned (own d).sheet (successor-fails p budget (visiting p budget) i tried j _ _ h.exists (went d))
+  stops (Halt r') d other =
+      let run = h.trying.run ∙ successor-halts p budget (visiting p budget) i tried j _ _ h.exists (went d) in
+      did (own d).sheet (sym (try-halts p budget (visiting p budget) i (actions_at p i) n _ _ run))
 
-      passes : price_at p (reached s' v.raises) a ≤ value_at (reached s' v.raises) i →
-          Trying t p budget i a s₀ r₀ s' v.raises (j + 1)
-      passes le = record {
-        sheet = d.sheet;
-        leads = then l.leads since;
-        fair = le;
-        run = l.run ∙ rw add-one (successor-passes p budget to i a j _ _ exists (went Success e) le);
-      }
+  -- the visit succeeded
+  module _ {s' : List ℕ} {r' : ℕ} (d : Did t (problem_of s) s' (Success r') (visiting (problem_of s) budget f (reached s r))) where
+    since : Leads p budget (suc i) (reached s r) (reached s' r')
+    since = wider (omega (arith, ahead)) (ends h.begun.turn.formed ahead.1 h.trying.leads.ready (own d)).0
 
-      -- nothing was raised, so no price changed
-      pub passes-quietly : v.raises ≡ r → Trying t p budget i a s₀ r₀ s' v.raises (j + 1)
-      passes-quietly same =
-          let price = q-same p.kind (value_at (reached s r)) (value_at (reached s' v.raises)) a in
-          passes (omega (arith, l.fair, since.quiet same i, price (λ u m. sym (since.quiet same u))))
+    passes : price_at p (reached s' r') tried ≤ value_at (reached s' r') i → Trying t p budget i tried s₀ r₀ s' r' (j + 1)
+    passes le = record {
+      sheet = (own d).sheet;
+      leads = then h.trying.leads since;
+      fair = le;
+      run = h.trying.run ∙ rw add-one (successor-passes p budget (visiting p budget) i tried j _ _ h.exists (went d) le);
+    }
 
-      -- the action is priced anew, at y
-      module _ {y : ℕ} (anew : y ≡ q (problem_of s').kind (value_of (cells_of s')) (action_read (drop o s'))) where
-        price-is : y ≡ price_at p (reached s' v.raises) a
-        price-is = rw (problem-is d.sheet, turn_is b.turn d.sheet) at anew
+    -- nothing was raised, so no price changed
+    pub passes-quietly : r' ≡ r → Trying t p budget i tried s₀ r₀ s' r' (j + 1)
+    passes-quietly same =
+        let price = q-same p.kind (value_at (reached s r)) (value_at (reached s' r')) tried in
+        passes (omega (arith, h.trying.fair, since.quiet same i, price (λ u m. sym (since.quiet same u))))
 
-        stays : value_at (reached s' v.raises) i ≡ value
-        stays = held since ∙ held l.leads ∙ sym b.now
+    pub still-priced : Priced s' t o
+    still-priced = turn-priced h.begun.turn (own d).sheet
 
-        pub passes-priced : y ≤ value → Trying t p budget i a s₀ r₀ s' v.raises (j + 1)
-        passes-priced le = passes (omega (arith, stays, price-is))
+    -- the action is priced anew, at y
+    module _ {y : ℕ} (anew : y ≡ q (problem_of s').kind (value_of (cells_of s')) (action_read (drop o s'))) where
+      price-is : y ≡ price_at p (reached s' r') tried
+      price-is = rw (problem-is (own d).sheet, turn_is h.begun.turn (own d).sheet) at anew
 
-        pub dear : value < y → {v' : Visited} → (v'.way ≡ Failure) × (v'.raises ≡ v.raises) →
-            Did t p s' v' (trying p budget i n (reached s₀ r₀))
-        dear lt says = abandoned says (successor-dear p budget to i a j _ _ exists (went Success e) (omega (arith, stays, price-is)))
+      stays : value_at (reached s' r') i ≡ value
+      stays = held since ∙ held h.trying.leads ∙ sym h.begun.now
+
+      pub passes-priced : y ≤ value → Trying t p budget i tried s₀ r₀ s' r' (j + 1)
+      passes-priced le = passes (omega (arith, stays, price-is))
+
+      pub dear : value < y → Did t p s' (Failure r') (trying p budget i n (reached s₀ r₀))
+      dear lt =
+          abandoned (own d).sheet
+          (successor-dear p budget (visiting p budget) i tried j _ _ h.exists (went d) (omega (arith, stays, price-is)))

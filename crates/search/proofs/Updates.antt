@@ -2,7 +2,6 @@
 -- actions passed.
 use Prim.Native.Nat.{ℕ, ◌+◌, ◌<◌, ◌≤◌}
 use mathlib.Core.Path.{◌≡◌, ◌∙◌, sym}
-use mathlib.Core.Bool.{Bool, true, false}
 use mathlib.Core.Logic.{◌⊎◌, inl, inr}
 use mathlib.Core.List.{List}
 use native.Mathlib.Omega.{arith}
@@ -17,25 +16,23 @@ use Rattle.sheet.specs.Sheet.{Sheet}
 use Rattle.sheet.proofs.Laws.{cells_are, named, has-cell, chosen-room, with_value, with-end-solved, with-decision-solved}
 use Rattle.theory.proofs.Basics.{lt-or-le}
 use Rattle.theory.proofs.Turns.{update-stores, update-raises, update-halts}
-use Rattle.search.specs.declared.visits.Way.{Way}
-use Rattle.search.specs.declared.visits.Way.TheVariants.{Success, Failure, Halt}
+use Rattle.std.specs.Prelude.{Option, Some, None}
 use Rattle.search.specs.declared.visits.Visited.{Visited}
+use Rattle.search.specs.declared.visits.Visited.TheVariants.{Success, Failure, Halt}
 use Rattle.search.specs.declared.visits.OpenDecision.{OpenDecision}
-use Rattle.search.specs.declared.visits.Updated.{Updated}
 use Rattle.search.specs.Opens.{ValueAt, Opens}
 use Rattle.search.specs.Did.{search, visit_of, after_update, Stored, Did}
 
--- a visit done: the bytes hold the cells that it says, and the answer v is that it ended so
-pub did : {s t : List ℕ} {p : Problem} {cells : List Cell} {way : Way} {r : ℕ} {v : Visited} {o : Visit} →
-    Sheet s t p cells → visit_of cells way r ≡ o → (v.way ≡ way) × (v.raises ≡ r) → Did t p s v o
-did h e is = record { sheet = named h; said = rw (is.0, is.1, cells_are h) e }
+-- a visit done: the bytes hold the cells that it says
+pub did : {s t : List ℕ} {p : Problem} {cells : List Cell} {v : Visited} {o : Visit} →
+    Sheet s t p cells → visit_of cells v ≡ o → Did t p s v o
+did h e = record { sheet = named h; said = rw (cells_are h) e }
 
 pub also-said : {s t : List ℕ} {p : Problem} {v : Visited} {o o' : Visit} → Did t p s v o → o ≡ o' → Did t p s v o'
 also-said d e = record { sheet = d.sheet; said = d.said ∙ e }
 
-stored : {s t : List ℕ} {p : Problem} {cells : List Cell} {done : Bool} {r : ℕ} {o : (Search → Visit) → Visit} →
-    Sheet s t p cells → ((next : Search → Visit) → after_update done (search cells r) next ≡ o next) →
-    Stored t p s (record { done = done; raises = r }) o
+stored : {s t : List ℕ} {p : Problem} {cells : List Cell} {r : ℕ} {u : Option ℕ} {o : (Search → Visit) → Visit} →
+    Sheet s t p cells → ((next : Search → Visit) → after_update cells r u next ≡ o next) → Stored t p s r u o
 stored h e = record { sheet = named h; said = rw (cells_are h) e }
 
 abbrev updated : List ℕ → ℕ → ℕ → ℕ → ℕ → (Search → Visit) → Visit
@@ -47,14 +44,14 @@ module _ {s t : List ℕ} {p : Problem} {i at value : ℕ} (g : ValueAt s t p i 
   with-x e = rw (e, g.place) (with_value g.sheet i g.below x)
 
   pub did-raise : value < x → r < budget → {s' : List ℕ} → s' ≡ put32 s at x →
-      Stored t p s' (record { done = true; raises = r + 1 }) (updated s i x budget r)
+      Stored t p s' r (Some (r + 1)) (updated s i x budget r)
   did-raise lt room e = stored (with-x e) (rw add-one (λ next. sym (update-raises budget i x next _ (omega (arith, g.is)) room)))
 
-  pub did-halt : value < x → budget ≤ r → Stored t p s (record { done = false; raises = r }) (updated s i x budget r)
+  pub did-halt : value < x → budget ≤ r → Stored t p s r None (updated s i x budget r)
   did-halt lt full = stored g.sheet (λ next. sym (update-halts budget i x next _ (omega (arith, g.is)) full))
 
   pub did-store : x ≤ value → {s' : List ℕ} → s' ≡ put32 s at x →
-      Stored t p s' (record { done = true; raises = r }) (updated s i x budget r)
+      Stored t p s' r (Some r) (updated s i x budget r)
   did-store le e = stored (with-x e) (λ next. sym (update-stores budget i x next _ (omega (arith, g.is))))
 
 -- the value of a decision that is visited
@@ -71,64 +68,51 @@ pub decision-marked : {s t : List ℕ} {p : Problem} {cells : List Cell} (i n : 
     at ≡ value_offset p i → {s' : List ℕ} → s' ≡ set (set s (at + 4) 1) (at + 5) n → Sheet s' t p (set_solved cells i n)
 decision-marked i n h lt tag place e = rw (e, place) (with-decision-solved h i lt tag n)
 
--- what follows an update, by whether the budget had room for it
-module _ {s t : List ℕ} {p : Problem} {u : Updated} {o : (Search → Visit) → Visit} (d : Stored t p s u o)
-    (next : Search → Visit) where
-  pub went_on : u.done ≡ true → next (search (cells_of s) u.raises) ≡ o next
-  went_on e = (rw e) ∙ d.said next
-
-  pub stopped : u.done ≡ false → halt (search (cells_of s) u.raises) ≡ o next
-  stopped e = (rw e) ∙ d.said next
-
 -- an update that was done has changed the value alone
-changed : (s : List ℕ) {t s' : List ℕ} {p : Problem} (i x budget r : ℕ) {u : Updated} →
-    Stored t p s' u (updated s i x budget r) →
-    u.done ≡ true → cells_of s' ≡ set_value (cells_of s) i x
-changed s {s' = s'} i x budget r d e = go (lt-or-le (value_at before i) x) (lt-or-le r budget)
+changed : (s : List ℕ) {t s' : List ℕ} {p : Problem} (i x budget r : ℕ) {r' : ℕ} →
+    Stored t p s' r (Some r') (updated s i x budget r) → cells_of s' ≡ set_value (cells_of s) i x
+changed s {s' = s'} i x budget r d = go (lt-or-le (value_at before i) x) (lt-or-le r budget)
   where
     before : Search
     before = search (cells_of s) r
 
     -- the search that the update hands on
     handed : (w : Search) → update budget i x success before ≡ success w → cells_of s' ≡ w.cells
-    handed w is = let same = went_on d success e ∙ is in cc
+    handed w is = let same = d.said success ∙ is in cc
 
     go : (value_at before i < x) ⊎ (x ≤ value_at before i) → (r < budget) ⊎ (budget ≤ r) →
         cells_of s' ≡ set_value (cells_of s) i x
     go (inl up) (inl room) = handed _ (update-raises budget i x success before up room)
     go (inl up) (inr full) =
-        let z : success _ ≡ halt before = went_on d success e ∙ update-halts budget i x success before up full in
+        let z : success _ ≡ halt before = d.said success ∙ update-halts budget i x success before up full in
         let no : ◌≡◌ {A = ℕ} 0 1 = cc in absurd (omega arith)
     go (inr le) room = handed _ (update-stores budget i x success before le)
 
 -- an open state at which nothing is chosen, whose value becomes x
 module _ {s t : List ℕ} {p : Problem} {i at value : ℕ} (g : ValueAt s t p i at value) (none : (cell_of (cells_of s) i).chosen ≡ 0)
-    (x budget r : ℕ) {s' : List ℕ} {u : Updated} (d : Stored t p s' u (updated s i x budget r)) where
+    (x budget r : ℕ) where
   abbrev finished : Visit
   finished = finish budget i x (search (cells_of s) r)
 
-  pub settles : u.done ≡ true → {s'' : List ℕ} → s'' ≡ set s' (at + 4) 1 → {v : Visited} →
-      (v.way ≡ Success) × (v.raises ≡ u.raises) →
-      Did t p s'' v finished
+  pub settles : {s' : List ℕ} {r' : ℕ} → Stored t p s' r (Some r') (updated s i x budget r) → {s'' : List ℕ} →
+      s'' ≡ set s' (at + 4) 1 → Did t p s'' (Success r') finished
   unfolding finish
-  settles e last says =
+  settles {s'} d last =
       let raised = cell x (cell_of (cells_of s) i).mark (cell_of (cells_of s) i).chosen in
       let same = get_or-set_same (cells_of s) i raised (cell 0 0 0) (has-cell g.sheet i g.below) in
-      let kept : (cell_of (cells_of s') i).chosen ≡ 0 = rw (changed s i x budget r d e, same) none in
+      let kept : (cell_of (cells_of s') i).chosen ≡ 0 = rw (changed s i x budget r d, same) none in
       let solved = with-end-solved d.sheet i g.below kept in
-      did (rw (last, g.place) solved) (went_on d (λ w. success (marked i 0 w)) e) says
+      did (rw (last, g.place) solved) (d.said (λ w. success (marked i 0 w)))
 
-  pub no_room : u.done ≡ false → {v : Visited} → (v.way ≡ Halt) × (v.raises ≡ u.raises) → Did t p s' v finished
+  pub no_room : {s' : List ℕ} → Stored t p s' r None (updated s i x budget r) → Did t p s' (Halt r) finished
   unfolding finish
-  no_room e says = did d.sheet (stopped d (λ w. success (marked i 0 w)) e) says
+  no_room d = did d.sheet (d.said (λ w. success (marked i 0 w)))
 
 -- a decision whose value becomes the least price
-module _ (s : List ℕ) {t : List ℕ} {p : Problem} (i budget r : ℕ) {x y : ℕ} (is : x ≡ y) {s' : List ℕ} {u : Updated}
-    (d : Stored t p s' u (updated s i x budget r)) where
-  pub fails : u.done ≡ true → {v : Visited} → (v.way ≡ Failure) × (v.raises ≡ u.raises) →
-      Did t p s' v (updated s i y budget r failure)
-  fails e says = rw (← is) (did d.sheet (went_on d failure e) says)
+module _ (s : List ℕ) {t : List ℕ} {p : Problem} (i budget r : ℕ) {x y : ℕ} (is : x ≡ y) {s' : List ℕ} where
+  pub fails : {r' : ℕ} → Stored t p s' r (Some r') (updated s i x budget r) →
+      Did t p s' (Failure r') (updated s i y budget r failure)
+  fails d = rw (← is) (did d.sheet (d.said failure))
 
-  pub fails-not : u.done ≡ false → {v : Visited} → (v.way ≡ Halt) × (v.raises ≡ u.raises) →
-      Did t p s' v (updated s i y budget r failure)
-  fails-not e says = rw (← is) (did d.sheet (stopped d failure e) says)
+  pub fails-not : Stored t p s' r None (updated s i x budget r) → Did t p s' (Halt r) (updated s i y budget r failure)
+  fails-not d = rw (← is) (did d.sheet (d.said failure))

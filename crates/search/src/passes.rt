@@ -5,12 +5,13 @@ ghost use Rattle.model.specs.Ldfs.{work as worked};
 ghost use Rattle.sheet.specs.Sheet.{Within};
 ghost use Rattle.search.specs.Did.{Workable, DidPasses};
 
-use super::visits::{Way, visit};
+use super::visits::{Visited, visit};
 
-// What the work of a call gives: how the last pass ended, the passes begun, and the raises made.
+// What the work of a call gives: whether the last pass succeeded, or else work stopped for want of budget; the passes begun, and the
+// raises made.
 #[derive(Clone, Copy)]
 pub struct Passes {
-    pub way: Way,
+    pub succeeded: bool,
     pub begun: u64,
     pub raises: u64,
 }
@@ -27,27 +28,18 @@ pub fn work(sheet: &mut [u8], table: &[u32], start: usize, budget: u64) -> Passe
     let mut raises: u64 = 0;
     loop {
         begun += 1;
-        let v = visit(sheet, table, start, raises, budget);
-        raises = v.raises;
-        let way = v.way;
-        match way {
-            Way::Success => {
-                return Passes {
-                    way: Way::Success,
-                    begun,
-                    raises,
-                };
-            }
-            Way::Failure => {
-                continue;
-            }
-            Way::Halt => {
-                return Passes {
-                    way: Way::Halt,
-                    begun,
-                    raises,
-                };
-            }
+        match visit(sheet, table, start, raises, budget) {
+            Visited::Success(raises) => return Passes {
+                succeeded: true,
+                begun,
+                raises,
+            },
+            Visited::Failure(by_then) => raises = by_then,
+            Visited::Halt(raises) => return Passes {
+                succeeded: false,
+                begun,
+                raises,
+            },
         }
     }
 }

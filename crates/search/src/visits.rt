@@ -1,46 +1,29 @@
 // A visit to a state. Three functions call each other: a visit to a decision tries its actions in turn, and to try an action is to visit
 // its successors, whose numbers are larger.
-ghost use Rattle.std.specs.Prelude.{◌≡◌, false, List, ℕ, ◌+◌, ◌<◌, ◌≤◌, length};
+ghost use Rattle.std.specs.Prelude.{◌≡◌, false, List, ℕ, ◌+◌, ◌<◌, ◌≤◌, length, drop};
 ghost use Rattle.model.specs.Problem.{Problem, node_at, cell_of, value_of, solved};
 ghost use Rattle.model.specs.Format.{actions_of};
-ghost use Rattle.model.specs.Read.{problem_of, cells_of};
+ghost use Rattle.model.specs.Read.{problem_of, cells_of, action_read};
 ghost use Rattle.model.specs.QValue.{q, least};
 ghost use Rattle.model.specs.Ldfs.{failure, update as updated, finish as finished};
-ghost use Rattle.sheet.specs.Sheet.{Within, Decision};
+ghost use Rattle.sheet.specs.Sheet.{Within, Decision, Priced};
 ghost use Rattle.search.specs.Did.{search, visiting, trying, Stored, Did, Workable};
 ghost use Rattle.search.specs.Keeps.{Keeps};
 ghost use Rattle.search.specs.Opens.{ValueAt, Opens, Fair};
 
-use super::kept::{Kept, abandoned, least_kept, none_kept, skipped};
+use super::kept::{Kept, least_kept};
 use model::{NO_PLAN, format};
-use sheet::convert::word_to_index;
-use sheet::fields::{
-    action_here, first_action, is_terminal, mark_decision, mark_end, next_action, solved_at,
-    terminal_cost, value_at, value_place,
-};
+use sheet::actions::{Action, action_here};
+use sheet::fields::{Indexed, mark_decision, mark_end};
 use sheet::numbers::{get16, set32};
-use sheet::pricing::price;
 
-// How a visit ends: it succeeds, it fails, or work stops for want of budget (S6.9).
+// How a visit ended, with the raises made by then: it succeeded, it failed, or work stopped for want of budget (S6.9).
+// No `Result`: with an enum for its error it would not fit two registers, and deep sheets would take up to 4 % more instructions.
 #[derive(Clone, Copy)]
-pub enum Way {
-    Success,
-    Failure,
-    Halt,
-}
-
-// What a visit gives: how it ended, and the raises made by then.
-#[derive(Clone, Copy)]
-pub(crate) struct Visited {
-    pub(crate) way: Way,
-    pub(crate) raises: u64,
-}
-
-// What an update gives: whether the budget had room for it, and the raises made by then.
-#[derive(Clone, Copy)]
-struct Updated {
-    done: bool,
-    raises: u64,
+pub(crate) enum Visited {
+    Success(u64),
+    Failure(u64),
+    Halt(u64),
 }
 
 // An open decision that is visited: its number, where its value stands, and its value, which stays while later states are visited. The
@@ -52,37 +35,24 @@ struct OpenDecision {
     value: u32,
 }
 
-// The value at `at`, which is `value`, becomes x: a raise where that is larger, and work stops just before the raise that would go beyond
-// the budget.
-fn update(sheet: &mut [u8], at: usize, value: u32, x: u32, raises: u64, budget: u64) -> Updated
+// The value at `at`, which is `value`, becomes x: a raise where that is larger. Gives the raises made by then, or nothing just before the
+// raise that would go beyond the budget.
+fn update(sheet: &mut [u8], at: usize, value: u32, x: u32, raises: u64, budget: u64) -> Option<u64>
     requires { at + 4 ≤ length sheet.old }
     ensures { (t : List ℕ) (p : Problem) (i : ℕ) → ValueAt sheet.old t p i at value →
-        Stored t p sheet.new result (λ next. updated budget i x next (search (cells_of sheet.old) raises)) }
+        Stored t p sheet.new raises result (λ next. updated budget i x next (search (cells_of sheet.old) raises)) }
 {
     if value < x {
         if raises < budget {
             set32(sheet, at, x);
-            Updated {
-                done: true,
-                raises: raises + 1,
-            }
+            Some(raises + 1)
         } else {
-            Updated {
-                done: false,
-                raises,
-            }
+            None
         }
     } else {
         set32(sheet, at, x);
-        Updated { done: true, raises }
+        Some(raises)
     }
-}
-
-// A visit that ended so.
-fn ended(way: Way, raises: u64) -> Visited
-    ensures { (result.way ≡ way) × (result.raises ≡ raises) }
-{
-    Visited { way, raises }
 }
 
 // An open state that has no action to try: its value becomes x, and it is marked. Nothing is chosen there, which is written 0 already.
@@ -99,16 +69,14 @@ fn finish(
     ensures { Did table.now (problem_of sheet.old) sheet.new result
         (finished budget state x (search (cells_of sheet.old) raises)) }
 {
-    let at = value_place(sheet, table, state);
-    let value = value_at(sheet, table, state);
-    let u = update(sheet, at, value, x, raises, budget);
-    let done = u.done;
-    if done {
-        mark_end(sheet, at);
-        ended(Way::Success, u.raises)
-    } else {
-        ended(Way::Halt, u.raises)
-    }
+    let here = Indexed::new(sheet, table);
+    let at = here.value_place(state);
+    let value = here.value(state);
+    let Some(spent) = update(sheet, at, value, x, raises, budget) else {
+        return Visited::Halt(raises);
+    };
+    mark_end(sheet, at);
+    Visited::Success(spent)
 }
 
 // An open decision none of whose actions passed: its value becomes the least price.
@@ -129,14 +97,21 @@ fn fail(
         (updated budget d.state (least (q (problem_of sheet.old).kind (value_of (cells_of sheet.old)))
         (actions_of (node_at (problem_of sheet.old) d.state))) failure (search (cells_of sheet.old) raises)) }
 {
-    let x = least_kept(sheet, table, d.state, kept);
-    let u = update(sheet, d.cell, d.value, x, raises, budget);
-    let done = u.done;
-    if done {
-        ended(Way::Failure, u.raises)
-    } else {
-        ended(Way::Halt, u.raises)
-    }
+    let x = least_kept(&Indexed::new(sheet, table), d.state, kept);
+    let Some(spent) = update(sheet, d.cell, d.value, x, raises, budget) else {
+        return Visited::Halt(raises);
+    };
+    Visited::Failure(spent)
+}
+
+// The price of the action at `a`, as the sheet is now: values rise between one pricing and the next.
+fn price_at(sheet: &[u8], table: &[u32], a: usize) -> u32
+    requires { Priced sheet.now table.now a }
+    ensures { result ≡ q (problem_of sheet.now).kind (value_of (cells_of sheet.now)) (action_read (drop a sheet.now)) }
+{
+    Indexed::new(sheet, table)
+        .price(&Action::new(sheet, a))
+        .price
 }
 
 // Action n of an open decision, which stands at `a` and whose price is not above the value: its successors are visited in turn, by their
@@ -147,7 +122,7 @@ fn try_action(
     sheet: &mut [u8],
     table: &[u32],
     d: OpenDecision,
-    n: u32,
+    n: u8,
     a: usize,
     raises: u64,
     budget: u64,
@@ -159,43 +134,33 @@ fn try_action(
     ensures { Did table.now (problem_of sheet.old) sheet.new result
         (trying (problem_of sheet.old) budget d.state n (search (cells_of sheet.old) raises)) }
 {
-    let end = next_action(sheet, a);
+    let end = Action::new(sheet, a).end();
     let mut spent = raises;
+    // No `for` over the offsets by two: it leaves from the end of a turn too, and its proof goes through the turn once more there.
     let mut o: usize = a + format::SUCCESSORS_IN;
     while o < end {
-        let t = word_to_index(get16(sheet, o));
+        let t = usize::from(get16(sheet, o));
         o += format::SUCCESSOR_BYTES;
         let before = spent;
-        let v = visit(sheet, table, t, before, budget);
-        spent = v.raises;
-        let way = v.way;
-        match way {
-            Way::Success => {
-                if spent == before {
-                    continue;
-                }
-                let y = price(sheet, table, a);
-                if y.price <= d.value {
-                    continue;
-                } else {
-                    return ended(Way::Failure, spent);
-                }
-            }
-            Way::Failure => {
-                return v;
-            }
-            Way::Halt => {
-                return v;
-            }
+        match visit(sheet, table, t, before, budget) {
+            Visited::Success(by_then) => spent = by_then,
+            ended => return ended,
+        }
+        if spent == before {
+            continue;
+        }
+        let y = price_at(sheet, table, a);
+        if y > d.value {
+            return Visited::Failure(spent);
         }
     }
     mark_decision(sheet, d.cell, n);
-    ended(Way::Success, spent)
+    Visited::Success(spent)
 }
 
 // A visit to an open decision: its actions are taken in order, one whose price is above the value skipped. An action that is abandoned is
-// priced at once. A decision without actions is finished at none (S6.11), which is seen behind the loop. The answer of a try is made anew,
-// not handed on: that keeps it in registers.
+// priced at once. A decision without actions is finished at none (S6.11), which is seen behind the loop. It goes by offsets: a visit writes
+// the sheet between one action and the next, and no walk over it can be held meanwhile.
 #[cycle(try_action_visit_visit_decision)]
 fn visit_decision(
     sheet: &mut [u8],
@@ -211,39 +176,29 @@ fn visit_decision(
     ensures { Did table.now (problem_of sheet.old) sheet.new result
         (visiting (problem_of sheet.old) budget state (search (cells_of sheet.old) raises)) }
 {
-    let cell = value_place(sheet, table, state);
-    let value = value_at(sheet, table, state);
+    let here = Indexed::new(sheet, table);
+    let cell = here.value_place(state);
+    let value = here.value(state);
     let d = OpenDecision { state, cell, value };
-    let mut kept = none_kept();
+    let mut kept = Kept::none();
     let mut spent = raises;
-    let mut at: usize = first_action(sheet, table, state);
-    let mut i: u32 = 0;
+    let mut at: usize = here.first_action(state);
+    let mut i: u8 = 0;
     while action_here(sheet, at) {
         let a = at;
-        at = next_action(sheet, a);
-        let x = price(sheet, table, a);
-        if x.price > value {
-            kept = skipped(kept, x.price);
+        at = Action::new(sheet, a).end();
+        let x = price_at(sheet, table, a);
+        if x > value {
+            kept = kept.skipped(x);
             i += 1;
             continue;
         }
-        let v = try_action(sheet, table, d, i, a, spent, budget);
-        spent = v.raises;
-        let way = v.way;
-        match way {
-            Way::Success => {
-                return ended(Way::Success, spent);
-            }
-            Way::Failure => {
-                let y = price(sheet, table, a);
-                kept = abandoned(kept, y.price);
-                i += 1;
-                continue;
-            }
-            Way::Halt => {
-                return ended(Way::Halt, spent);
-            }
+        match try_action(sheet, table, d, i, a, spent, budget) {
+            Visited::Failure(by_then) => spent = by_then,
+            ended => return ended,
         }
+        kept = kept.abandoned(price_at(sheet, table, a));
+        i += 1;
     }
     if i == 0 {
         return finish(sheet, table, state, NO_PLAN, spent, budget);
@@ -266,11 +221,12 @@ pub(crate) fn visit(
     ensures { Did table.now (problem_of sheet.old) sheet.new result
         (visiting (problem_of sheet.old) budget state (search (cells_of sheet.old) raises)) }
 {
-    if solved_at(sheet, table, state) {
-        return ended(Way::Success, raises);
+    let here = Indexed::new(sheet, table);
+    if here.is_solved(state) {
+        return Visited::Success(raises);
     }
-    if is_terminal(sheet, table, state) {
-        let cost = terminal_cost(sheet, table, state);
+    if here.is_terminal(state) {
+        let cost = here.terminal_cost(state);
         return finish(sheet, table, state, cost, raises, budget);
     }
     visit_decision(sheet, table, state, raises, budget)

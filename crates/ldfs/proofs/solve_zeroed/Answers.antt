@@ -1,43 +1,33 @@
 -- The questions, and then a refusal or the work.
-use mathlib.Core.Path.{◌≡◌, sym, ◌∙◌}
-use Rattle.model.specs.Format.{Bytes}
-use Rattle.questions.specs.declared.Verdict.TheVariants.{Accepted}
-use Rattle.questions.specs.Table.{served_refusal}
-use Rattle.questions.specs.Verdicts.{verdict}
-use Rattle.ldfs.proofs.Solving.{refused-by, start-within, workable, no-budget, worked}
+use mathlib.Core.Path.{sym, ◌∙◌}
+use Rattle.std.proofs.Common.{rules}
+use Rattle.ldfs.proofs.Solving.{Asked, clauses, refused-by, in_place, workable, no-budget, worked}
 use Rattle.ldfs.proofs.solve_zeroed.Goals as goal
-use Rattle.ldfs.proofs.solve_zeroed.Goals.{After-ask-v, In-Accepted}
+use Rattle.ldfs.proofs.solve_zeroed.Goals.{In-Ok}
 
--- every answer is yes, and the sheet holds bytes
-accepted-at : (c : In-Accepted) → Accepted ≡ verdict (served_refusal c.args.sheet.now c.args.table.now)
-accepted-at c = sym c.in-Accepted.is ∙ c.ask-v.ensures.answer
-
-bytes-at : (c : After-ask-v) → Bytes c.args.sheet.now
-bytes-at c = λ i. (c.slice_known-1.given i).fits
+-- every answer is yes
+asked-at : (c : In-Ok) → Asked c.args.sheet.now c.args.table.now c.ask.new.table
+asked-at c = record {
+  yes = sym c.in-Ok.is ∙ c.ask.ensures.answer;
+  bytes = search rules;
+  table = c.ask.ensures.table;
+}
 
 pub finish-requires : goal.finish-requires
 finish-requires c =
-    let budget = c.args.budget in record {
-      within = start-within _ _ budget (accepted-at (goal.at.finish-requires c).In-Accepted)
-          (bytes-at (goal.at.finish-requires c).After-ask-v) _ c.ask-v.ensures.table;
-      workable = workable _ _ budget (accepted-at (goal.at.finish-requires c).In-Accepted)
-          (bytes-at (goal.at.finish-requires c).After-ask-v) _ c.ask-v.ensures.table;
-    }
+    let asked = asked-at (goal.at.finish-requires c).In-Ok in record { in_place = in_place asked; workable = workable asked }
 
-pub returns-in-Refused : goal.returns-in-Refused
-returns-in-Refused c =
-    let said = sym c.in-Refused.is ∙ c.ask-v.ensures.answer in
-    let every = refused-by _ _ c.args.budget _ said _ c.refusal.ensures _ c.ask-v.ensures.table in
-    record { answer = every.0; sheet = every.1.0; table = every.1.1 }
+pub returns-in-Err : goal.returns-in-Err
+returns-in-Err c =
+    let said = sym c.in-Err.is ∙ c.ask.ensures.answer in
+    clauses (refused-by _ _ c.args.budget _ said _ (rw c.number.ensures at c.refusal.ensures) _ c.ask.ensures.table)
 
 pub returns-then-budget-eq0 : goal.returns-then-budget-eq0
-returns-then-budget-eq0 c = let every = no-budget _ _ _ (accepted-at (goal.at.returns-then-budget-eq0 c).In-Accepted)
-    (bytes-at (goal.at.returns-then-budget-eq0 c).After-ask-v) _ c.ask-v.ensures.table c.if-budget-eq0.true _
-    c.refusal-then-budget-eq0.ensures _
-    c.clear.ensures in
-    record { answer = every.0; sheet = every.1.0; table = every.1.1 }
+returns-then-budget-eq0 c =
+    let asked = asked-at (goal.at.returns-then-budget-eq0 c).In-Ok in
+    let refused = rw c.number-then-budget-eq0.ensures at c.refusal-then-budget-eq0.ensures in
+    clauses (no-budget asked c.if-budget-eq0.true refused (c.fill.ensures.after (λ _ e. e)))
 
 pub returns-else-budget-eq0 : goal.returns-else-budget-eq0
-returns-else-budget-eq0 c = let every = worked _ _ _ (accepted-at (goal.at.returns-else-budget-eq0 c).In-Accepted)
-    (bytes-at (goal.at.returns-else-budget-eq0 c).After-ask-v) _ c.ask-v.ensures.table c.if-budget-eq0.false _ _ c.finish.ensures in
-    record { answer = every.0; sheet = every.1.0; table = every.1.1 }
+returns-else-budget-eq0 c =
+    clauses (worked (asked-at (goal.at.returns-else-budget-eq0 c).In-Ok) c.if-budget-eq0.false c.finish.ensures)

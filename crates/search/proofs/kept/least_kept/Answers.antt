@@ -6,4 +6,4 @@ use Rattle.search.proofs.kept.least_kept.Goals as goal
 
 pub returns-then-kept : goal.returns-then-kept
 returns-then-kept c =
-    keeps-least c.requires.keeps c.requires.nonzero (q-small _ _) (omega arith)
+    keeps-least c.requires.keeps c.requires.some (q-small _ _) (omega arith)
