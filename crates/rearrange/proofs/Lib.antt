@@ -1,4 +1,5 @@
 pub mod Waits
+pub mod Walking
 pub mod Releasing
 pub mod Run
 pub mod Tally
@@ -7,6 +8,5 @@ pub mod Writing
 pub mod Stages
 pub mod Whole
 pub mod Places
-pub mod Listing
 pub mod Turning
 pub mod Lending

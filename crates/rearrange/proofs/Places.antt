@@ -24,28 +24,6 @@ pub record Lowered (n : ℕ) (a b : List ℕ) (t : ℕ) : Type 0 where
   pub less : (u : ℕ) → u < t → at b u + 1 ≡ at a u
   pub rest : (u : ℕ) → t ≤ u → at b u ≡ at a u
 
-pub lowered-start : (n : ℕ) (a : List ℕ) → Lowered n a a 0
-lowered-start n a = record { upto = omega arith; same = refl; less = λ u l. absurd (omega arith); rest = λ u l. refl }
-
-module _ {n : ℕ} {a b : List ℕ} {t : ℕ} (h : Lowered n a b t) (long : n ≤ length a) where
-  pub lowered-next : t < n → (w : ℕ) → w ≡ at b t → (w ≡ 0 → ⊥) → Lowered n a (set b t (w - 1)) (t + 1)
-  lowered-next l w is some = record {
-    upto = omega arith;
-    same = length-set b t (w - 1) ∙ h.same;
-    less = λ u lu. go u lu (same_or_not u t);
-    rest = λ u lu. get_or-set_other b t u (w - 1) 0 (omega arith) ∙ h.rest u (omega arith);
-  }
-    where
-      go : (u : ℕ) → u < t + 1 → (u ≡ t) ⊎ (u ≢ t) → at (set b t (w - 1)) u + 1 ≡ at a u
-      go u lu (inl e) = rw (e, get_or-set_same b t (w - 1) 0 (omega (arith, h.same))) (omega (arith, is, some, h.rest t (omega arith)))
-      go u lu (inr e) = rw (get_or-set_other b t u (w - 1) 0 e) (h.less u (omega arith))
-
-  pub lowered-all : n ≤ t → OneLess n a b
-  lowered-all le = record { same = h.same; less = λ u l. h.less u (omega arith) }
-
-  pub lowered_none : t < n → (w : ℕ) → w ≡ at b t → w ≡ 0 → (u : ℕ) × (u < n) × (at a u ≡ 0)
-  lowered_none l w is none = (t, l, omega (arith, is, none, h.rest t (omega arith)))
-
 -- The loop that marks.
 pub marked_start : (list : List ℕ) (n : ℕ) (new : List ℕ) → ((u : ℕ) → at new u ≡ 0) → Marked list n 0 new new
 unfolding times

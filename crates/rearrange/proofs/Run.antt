@@ -10,7 +10,6 @@ use borrow.Author.Tests.{eq-eqb, ne_eqb, lt-ltb, le-ltb}
 use lib.ListN.{length, get_or, set, take, length-set}
 use lib.Seq.{length-take-le, take-suc-set, get_or-set_same, get_or-set_other}
 use Rattle.model.specs.Problem.{Problem, states, node_at}
-use Rattle.model.specs.Read.{problem_of}
 use Rattle.layout.specs.Shape.{Inside}
 use Rattle.theory.proofs.Basics.{lt-or-le, same_or_not}
 use Rattle.order.proofs.Placing.{lowest-is, lowest-none, Placed, nothing_placed, more-placed}
@@ -19,7 +18,6 @@ use Rattle.rearrange.proofs.Waits.{times-points, free-waiting, waiting-own, wait
 use Rattle.order.specs.Order.{free, next, placing, order}
 use Rattle.order.specs.Times.{times}
 use Rattle.rearrange.specs.Waits.{found_at, waiting, lessened}
-use Rattle.sheet.specs.Sheet.{Within}
 
 -- findings are stages, so past the stages none is counted
 found-stage : (p : Problem) → Inside p → (s u : ℕ) → states p ≤ u → times u (found_at p s) ≡ 0
@@ -44,21 +42,27 @@ pub record Run (p : Problem) (n : ℕ) (ws₀ old₀ ws old : List ℕ) (low k :
   pub waits : (u : ℕ) → u < n → get_or ws u 0 ≡ waiting p (take k old) u
   pub lows : (u : ℕ) → u < low → 0 < get_or ws u 0
 
-pub run-start : (p : Problem) (n : ℕ) (ws old : List ℕ) → n ≡ states p → ((u : ℕ) → u < n → get_or ws u 0 ≡ waiting p [] u) → Run p n ws old
-    ws old 0 0
+pub run-start : {p : Problem} {n : ℕ} {ws old : List ℕ} → n ≡ states p → ((u : ℕ) → u < states p → get_or ws u 0 ≡ waiting p [] u) →
+    Run p n ws old ws old 0 0
 unfolding order
-run-start p n ws old e h = record {
+run-start {p} {n} e h = record {
   upto = omega arith;
   wide = refl;
   long = refl;
   placed = nothing_placed p;
   rest = let z : n - 0 ≡ states p = omega arith in ap (λ (m : ℕ). placing p m []) z;
-  waits = h;
+  waits = λ u l. h u (omega arith);
   lows = λ u l. absurd (omega arith);
 }
 
-module _ (p : Problem) (n : ℕ) (ws₀ old₀ ws old : List ℕ) (low k : ℕ) (h : Run p n ws₀ old₀ ws old low k)
-    (count : n ≡ states p) (wide : n ≤ length ws₀) (long : n ≤ length old₀) where
+module _ {p : Problem} {n : ℕ} {ws₀ old₀ ws old : List ℕ} {low k : ℕ} (h : Run p n ws₀ old₀ ws old low k)
+    (count : n ≡ states p) (room : (states p ≤ length ws₀) × (states p ≤ length old₀)) where
+  wide : n ≤ length ws₀
+  wide = omega arith
+
+  long : n ≤ length old₀
+  long = omega arith
+
   abbrev xs : List ℕ
   xs = take k old
 
@@ -66,14 +70,15 @@ module _ (p : Problem) (n : ℕ) (ws₀ old₀ ws old : List ℕ) (low k : ℕ) 
   xs-length = length-take-le k old (omega (arith, h.upto, h.long))
 
   -- all are placed
-  pub run-full : n ≤ k → (k ≡ length (order p)) × ((xs ≡ order p) × ((u : ℕ) → u < n → get_or ws u 0 ≡ waiting p (order p) u))
+  pub run-full : n ≤ k → (n ≡ length (order p)) × (take n old ≡ order p) × ((u : ℕ) → u < states p → get_or ws u 0 ≡ waiting p (order p) u)
   unfolding placing
   run-full le =
+      let same : k ≡ n = omega (arith, h.upto) in
       let z : n - k ≡ 0 = omega arith in
       let e : xs ≡ order p = rw z at h.rest in
-      (sym xs-length ∙ ap length e, (e, λ u l. h.waits u l ∙ ap (λ (ys : List ℕ). waiting p ys u) e))
+      (sym same ∙ sym xs-length ∙ ap length e, rw same at e, λ u l. h.waits u (omega arith) ∙ ap (λ (ys : List ℕ). waiting p ys u) e)
 
-  module _ (lt : k < n) (t : ℕ) (found : (t ≤ n) × ((u : ℕ) → u < t → 0 < get_or ws u 0) × (t < n → get_or ws t 0 ≡ 0)) where
+  module _ (lt : k < n) where
     busy : (u : ℕ) → u < n → 0 < get_or ws u 0 → free p xs u ≡ false
     busy u l g = free-waiting p xs u ∙ ne_eqb (waiting p xs u) 0 (omega (arith, h.waits u l))
 
@@ -81,20 +86,22 @@ module _ (p : Problem) (n : ℕ) (ws₀ old₀ ws old : List ℕ) (low k : ℕ) 
     m = omega arith
 
     -- none is free
-    stuck : t ≡ n → xs ≡ order p
+    stuck : ((u : ℕ) → u < n → 0 < get_or ws u 0) → xs ≡ order p
     unfolding placing
-    stuck e =
-        let none : next p xs ≡ states p = lowest-none (states p) 0 (free p xs) (λ u a b. busy u (omega arith) (found.1 u (omega arith)))
+    stuck none =
+        let last : next p xs ≡ states p = lowest-none (states p) 0 (free p xs) (λ u a b. busy u (omega arith) (none u (omega arith)))
         ∙ omega arith in
-        rw (m, none, le-ltb (states p) (states p) (omega arith)) at h.rest
+        rw (m, last, le-ltb (states p) (states p) (omega arith)) at h.rest
 
-    pub run-stuck : t ≡ n → (k ≡ length (order p)) × ((xs ≡ order p) × ((u : ℕ) → u < n → get_or ws u 0 ≡ waiting p (order p) u))
-    run-stuck e = (sym xs-length ∙ ap length (stuck e), (stuck e, λ u l. h.waits u l ∙ ap (λ (ys : List ℕ). waiting p ys u) (stuck e)))
+    pub run-stuck : ((u : ℕ) → u < n → 0 < get_or ws u 0) →
+        (k ≡ length (order p)) × (xs ≡ order p) × ((u : ℕ) → u < states p → get_or ws u 0 ≡ waiting p (order p) u)
+    run-stuck none = let e = stuck none in
+        (sym xs-length ∙ ap length e, e, λ u l. h.waits u (omega arith) ∙ ap (λ (ys : List ℕ). waiting p ys u) e)
 
     -- t is placed
-    module _ (lt' : t < n) (any : Inside p) where
+    module _ {t : ℕ} (found : (t < n) × ((u : ℕ) → u < t → 0 < get_or ws u 0) × (get_or ws t 0 ≡ 0)) (any : Inside p) where
       is_free : free p xs t ≡ true
-      is_free = free-waiting p xs t ∙ eq-eqb (waiting p xs t) 0 (omega (arith, h.waits t lt', found.2 lt'))
+      is_free = free-waiting p xs t ∙ eq-eqb (waiting p xs t) 0 (omega (arith, h.waits t found.0, found.2))
 
       is-next : next p xs ≡ t
       is-next = lowest-is (states p) 0 (free p xs) t (omega arith) (omega arith) is_free (λ u a b. busy u (omega arith) (found.1 u b))
@@ -121,9 +128,9 @@ module _ (p : Problem) (n : ℕ) (ws₀ old₀ ws old : List ℕ) (low k : ℕ) 
           go (inl e) = rw e (omega (arith, own))
           go (inr d) = rw (get_or-set_other ws t u (k + 1) 0 d) (found.1 u (omega arith))
 
-      pub run-next : (ws2 : List ℕ) (low2 : ℕ) → ws2 ≡ lessened ws1 (found_at p t) → ((u : ℕ) → u < low2 → 0 < get_or ws2 u 0) → Run p n ws₀
+      pub run-next : {ws2 : List ℕ} {low2 : ℕ} → ws2 ≡ lessened ws1 (found_at p t) → ((u : ℕ) → u < low2 → 0 < get_or ws2 u 0) → Run p n ws₀
           old₀ ws2 (set old k t) low2 (k + 1)
-      run-next ws2 low2 is lows = record {
+      run-next {ws2} {low2} is lows = record {
         upto = omega arith;
         wide = ap length is ∙ (lessened-length ws1 (found_at p t) ∙ (length-set ws t (k + 1) ∙ h.wide));
         long = length-set old k t ∙ h.long;
@@ -153,18 +160,3 @@ module _ (p : Problem) (n : ℕ) (ws₀ old₀ ws old : List ℕ) (low k : ℕ) 
                 h.waits u l,
                 waiting-other p xs t (omega arith) is_free h.placed u d,
               )
-
-      -- the same of the stored entries, which are these numbers
-      pub release-asks : (x : ℕ) → x ≡ k + 1 → ((u : ℕ) → times u (found_at p t) ≤ get_or (set ws t x) u 0) ×
-          ((u : ℕ) → u < t + 1 → 0 < get_or (set ws t x) u 0)
-      release-asks x e = rw e (run-enough, run-lows)
-
-      pub run-again : (x y : ℕ) → x ≡ k + 1 → y ≡ t → (ws2 : List ℕ) (low2 : ℕ) → ws2 ≡ lessened (set ws t x) (found_at p t) →
-          ((u : ℕ) → u < low2 → 0 < get_or ws2 u 0) → Run p n ws₀ old₀ ws2 (set old k y) low2 (k + 1)
-      run-again x y ex ey ws2 low2 is lows = rw ey (run-next ws2 low2 (rw ex at is) lows)
-
-pub stage-within : (s t : List ℕ) (n i : ℕ) → Within s t 0 → n ≡ states (problem_of s) → i < n → Within s t i
-stage-within s t n i w e l = record { sheet = w.sheet; below = omega arith }
-
-pub below-n : (t n : ℕ) → t ≤ n → (t ≡ n → ⊥) → t < n
-below-n t n le ne = omega arith

@@ -8,38 +8,39 @@ use borrow.Author.Tests.{eq-eqb, ne_eqb}
 use lib.ListN.{length, get_or, take, replicate, length-replicate}
 use lib.Seq.{get_or-take, length-take-le, ext_get_or}
 use Rattle.model.specs.Problem.{Problem, Cell, states}
-use Rattle.model.specs.Questions.{question, finding_questions, mark_questions, field_questions, first_no}
+use Rattle.model.specs.Questions.{question, finding_questions, mark_questions, first_no}
 use Rattle.model.specs.Limits.{max_states}
 use Rattle.model.specs.Format.{head_tag, draft_tag}
-use Rattle.model.specs.Read.{problem_of, cells_of}
+use Rattle.model.specs.Read.{problem_of}
 use Rattle.model.specs.Report.{on_refusal}
 use Rattle.order.specs.Order.{order, inverse, lists}
 use Rattle.order.specs.Moved.{at}
 use Rattle.rearrange.specs.Waits.{waiting}
-use Rattle.order.specs.Asking.{question11, question11_back, turn_states, turn_questions, rearranged_bytes, restored_bytes, output_given}
+use Rattle.order.specs.Asking.{question11, question11_back, turn_states, rearranged_bytes, restored_bytes, output_given}
 use Rattle.order.specs.Asking.{list_given}
 use Rattle.order.proofs.Counting.{times-among, lists-perm, inverse-at}
 use Rattle.order.proofs.Placing.{all_placed, order-perm}
 use Rattle.order.proofs.Back.{flip}
-use Rattle.questions.proofs.Asking.{Fielded, then-more, first_of}
-use Rattle.rearrange.specs.Turning.{Ready, Renumbers, Placed, OneLess, turned, over}
+use Rattle.std.proofs.Common.{Ok, Err}
+use Rattle.questions.specs.Verdicts.{verdict}
+use Rattle.questions.proofs.Asking.{Fielded, accepted-none, refused-some, then-more}
+use Rattle.rearrange.specs.Turning.{Renumbers, Placed, OneLess, turned, over}
 
--- questions 5 and 6 by the number r of their first no, and then question 11
-module _ (p : Problem) (cells : List Cell) (six eleven : Unit {0} → Bool) (r : ℕ) (is : r ≡ first_no (finding_questions p cells six)) where
-  pub turn-first : (r ≡ 0 → ⊥) → r ≡ first_no (turn_states p cells six eleven)
-  turn-first = first_of (finding_questions p cells six) (question 11 eleven ∷ mark_questions p cells) refl r is
-
-  module _ (none : r ≡ 0) where
+-- questions 5 and 6 answered yes, and then question 11
+module _ (p : Problem) (cells : List Cell) (six eleven : Unit {0} → Bool) (yes : Ok tt ≡ verdict (first_no (finding_questions p cells six)))
+  where
     turn-then : first_no (turn_states p cells six eleven) ≡ first_no (question 11 eleven ∷ mark_questions p cells)
-    turn-then = then-more (finding_questions p cells six) (question 11 eleven ∷ mark_questions p cells) refl r is none
+    turn-then = then-more (finding_questions p cells six) (question 11 eleven ∷ mark_questions p cells) refl (sym yes)
 
-    pub turn-11 : eleven tt ≡ false → 11 ≡ first_no (turn_states p cells six eleven)
-    unfolding first_no
-    turn-11 a = sym (turn-then ∙ rw a)
+    pub turn-11 : eleven tt ≡ false → Err 11 ≡ verdict (first_no (turn_states p cells six eleven))
+    unfolding first_no verdict
+    turn-11 a = let no-11 : first_no (question 11 eleven ∷ mark_questions p cells) ≡ 11 = rw a in ap verdict (sym (turn-then ∙ no-11))
 
-    pub turn-marks : eleven tt ≡ true → first_no (mark_questions p cells) ≡ first_no (turn_states p cells six eleven)
+    pub turn-marks : eleven tt ≡ true → verdict (first_no (mark_questions p cells)) ≡ verdict (first_no (turn_states p cells six eleven))
     unfolding first_no
-    turn-marks a = sym (turn-then ∙ rw a)
+    turn-marks a =
+        let on : first_no (question 11 eleven ∷ mark_questions p cells) ≡ first_no (mark_questions p cells) = rw a in
+        ap verdict (sym (turn-then ∙ on))
 
 -- question 11 by the number of placed states
 pub placed-all : (p : Problem) (n k : ℕ) → n ≡ states p → k ≡ length (order p) → k ≡ n → question11 p ≡ true
@@ -115,44 +116,32 @@ pub back-turned : (s : List ℕ) (n : ℕ) (new list out : List ℕ) → n ≡ s
     over (turned draft_tag s n new list) out ≡ over (restored_bytes s list) out
 back-turned s n new list out count e = rw (e, count)
 
--- the questions about fields, by the number r of their first no, and then those about states
-module _ (wanted : ℕ) (s : List ℕ) (six eleven : Unit {0} → Bool) (r : ℕ) (is : r ≡ first_no (field_questions wanted max_states s)) where
-  pub then-turn : r ≡ 0 → first_no (turn_states (problem_of s) (cells_of s) six eleven) ≡ first_no (turn_questions wanted s six eleven)
-  then-turn none =
-      sym (then-more (field_questions wanted max_states s) (turn_states (problem_of s) (cells_of s) six eleven) refl r is none)
-
-  pub fields-turn : (r ≡ 0 → ⊥) → r ≡ first_no (turn_questions wanted s six eleven)
-  fields-turn = first_of (field_questions wanted max_states s) (turn_states (problem_of s) (cells_of s) six eleven) refl r is
-
--- a sheet whose fields are in place, ready
-pub ready-from : {s t : List ℕ} (n : ℕ) → Fielded s t → n ≡ states (problem_of s) → Ready s t n
-ready-from n f count = record { within = f.within; some = omega (arith, f.some); count = count; fits = f.fits }
-
+-- arrays of zeros have room for the states of a sheet whose fields are in place
 zeros-at : (m u : ℕ) → ◌≡◌ {A = ℕ} (get_or (replicate m 0) u 0) 0
 zeros-at zero u = refl
 zeros-at (suc m) zero = refl
 zeros-at (suc m) (suc u) = zeros-at m u
 
-pub zeros-asks : {s t : List ℕ} {n : ℕ} → Ready s t n → (n ≤ length (replicate {A = ℕ} max_states 0)) ×
+pub zeros-asks : {s t : List ℕ} → Fielded s t → (states (problem_of s) ≤ length (replicate {A = ℕ} max_states 0)) ×
     ((u : ℕ) → ◌≡◌ {A = ℕ} (get_or (replicate max_states 0) u 0) 0)
-zeros-asks {s} {t} {n} r =
-    (rw (length-replicate {A = ℕ} max_states 0) (omega (arith, r.count, r.within.sheet.shaped.most)), zeros-at max_states)
+zeros-asks f = (rw (length-replicate {A = ℕ} max_states 0) (omega (arith, f.within.sheet.shaped.most)), zeros-at max_states)
 
--- what stays where a question is answered no
-pub given-none : (made out : List ℕ) → over made out ≡ output_given 0 made out
+-- what is written where no question is answered no, and what stays where one is
+pub given-none : (q : ℕ) → Ok tt ≡ verdict q → (made out : List ℕ) → over made out ≡ output_given q made out
 unfolding on_refusal
-given-none made out = refl
+given-none q every made out = rw (accepted-none q (sym every))
 
-pub list-none : (s list : List ℕ) → order (problem_of s) ++ replicate (length list - states (problem_of s)) 0 ≡ list_given 0 s list
+pub list-none : (q : ℕ) → Ok tt ≡ verdict q → (s list : List ℕ) →
+    order (problem_of s) ++ replicate (length list - states (problem_of s)) 0 ≡ list_given q s list
 unfolding on_refusal
-list-none s list = refl
+list-none q every s list = rw (accepted-none q (sym every))
 
-pub given-some : (r : ℕ) → (r ≡ 0 → ⊥) → (made out : List ℕ) → out ≡ output_given r made out
+pub given-some : (q k : ℕ) → Err k ≡ verdict q → (made out : List ℕ) → out ≡ output_given q made out
 unfolding on_refusal
-given-some zero ne made out = absurd (ne refl)
-given-some (suc r) ne made out = refl
+given-some zero k err made out = absurd (refused-some 0 k (sym err) refl)
+given-some (suc q) k err made out = refl
 
-pub list-some : (r : ℕ) → (r ≡ 0 → ⊥) → (s list : List ℕ) → list ≡ list_given r s list
+pub list-some : (q k : ℕ) → Err k ≡ verdict q → (s list : List ℕ) → list ≡ list_given q s list
 unfolding on_refusal
-list-some zero ne s list = absurd (ne refl)
-list-some (suc r) ne s list = refl
+list-some zero k err s list = absurd (refused-some 0 k (sym err) refl)
+list-some (suc q) k err s list = refl

@@ -198,13 +198,6 @@ unfolding lessened
 lessened-length ws [] = refl
 lessened-length ws (t ∷ ts) = lessened-length (set ws t (at ws t - 1)) ts ∙ length-set ws t (at ws t - 1)
 
-set_at : (ws : List ℕ) (t x u : ℕ) → u < length ws → at (set ws t x) u ≡ fork (eqb u t) (λ _. x) (λ _. at ws u)
-set_at ws t x u l = go (same_or_not u t)
-  where
-    go : (u ≡ t) ⊎ (u ≢ t) → at (set ws t x) u ≡ fork (eqb u t) (λ _. x) (λ _. at ws u)
-    go (inl e) = rw (eq-eqb u t e, ← e) (get_or-set_same ws u x 0 l)
-    go (inr n) = rw (ne_eqb u t n) (get_or-set_other ws t u x 0 n)
-
 pub counted-at : (ws ts : List ℕ) (u : ℕ) → u < length ws → at (counted ws ts) u ≡ at ws u + times u ts
 unfolding counted times
 counted-at ws [] u l = omega arith

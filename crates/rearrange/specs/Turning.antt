@@ -1,23 +1,14 @@
 -- What the contracts of the private functions suppose and say.
 use Rattle.std.specs.Prelude.{ℕ, ◌+◌, ◌-◌, ◌<◌, ◌≤◌, ◌≡◌, ◌⊎◌, List, ◌++◌, length, take, drop}
-use Rattle.model.specs.Limits.{max_bytes}
 use Rattle.model.specs.Problem.{Problem, states, ◌∈◌}
 use Rattle.model.specs.Format.{write}
 use Rattle.model.specs.Read.{problem_of, cells_of}
-use Rattle.sheet.specs.Sheet.{Within}
 use Rattle.order.specs.Moved.{at, moved, moved_cells}
 use Rattle.order.specs.Order.{order}
 use Rattle.order.specs.Claims.{Perm}
 use Rattle.order.specs.Times.{times}
 use Rattle.rearrange.specs.Waits.{waiting}
 use Rattle.layout.specs.Shape.{Inside}
-
--- a sheet of n states that is in place, on an index table
-pub record Ready (s t : List ℕ) (n : ℕ) : Type 0 where
-  pub within : Within s t 0
-  pub some : 0 < n
-  pub count : n ≡ states (problem_of s)
-  pub fits : length s ≤ max_bytes
 
 -- the numbers that an array gives to some states: each has an entry, which fits two bytes
 abbrev pub Numbers : List ℕ → List ℕ → Type 0

@@ -1,50 +1,33 @@
-use mathlib.Core.Path.{◌≡◌, ap, sym, ◌∙◌}
-use mathlib.Core.Bool.{true}
+use mathlib.Core.Path.{◌≡◌, sym, ◌∙◌}
 use native.Mathlib.Omega.{arith}
-use lib.ListN.{length}
-use Rattle.order.specs.Asking.{question1_lent}
-use Rattle.questions.specs.Table.{indexed_before}
-use Rattle.questions.proofs.Asking.{cleared-length}
-use Rattle.rearrange.proofs.Lending.{room_says, restore-short, restore-yes, restore-no}
+use lib.ListN.{length, replicate}
+use Rattle.std.proofs.Common.{rules}
+use Rattle.rearrange.proofs.Lending.{room_says, restore-short, restore-done, restore-refused}
 use Rattle.rearrange.proofs.restore.Goals as goal
-use Rattle.rearrange.proofs.restore.Goals.{After-clear, Then-has_room}
 
--- question 1 is answered yes
-room : (c : Then-has_room) → question1_lent c.args.sheet.now (length c.args.table.now) (length c.args.output.now) (length c.args.list.now)
-    ≡ true
-room c = sym c.has_room.ensures ∙ c.if-has_room.true
+pub returns-then-not-has_room : goal.returns-then-not-has_room
+returns-then-not-has_room c =
+    let every = restore-short _ _ _ _ (sym c.has_room.ensures ∙ c.if-not-has_room.true) in
+    record { answer = rw c.into.ensures every.0; output = every.1.0; table = every.1.1 }
 
--- the cleared table is as long as it was
-cleared-length-of : (c : After-clear) → length c.clear.new.table ≡ length c.args.table.now
-cleared-length-of c = ap length c.clear.ensures ∙ cleared-length c.args.table.now
+pub turn_back-turned-requires : goal.turn_back-turned-requires
+turn_back-turned-requires c =
+    let (table, output, list) = room_says _ _ _ _ (sym c.has_room.ensures ∙ c.if-not-has_room.false) in
+    (omega (arith, table, c.fill.ensures.len), output, list)
 
-pub turn_back-no-requires : goal.turn_back-no-requires
-turn_back-no-requires c =
-    let (table, output, list) = room_says _ _ _ _ (room (goal.at.turn_back-no-requires c).Then-has_room) in
-    (omega (arith, table, cleared-length-of (goal.at.turn_back-no-requires c).After-clear), output, list)
-
-pub returns-then-no-eq0 : goal.returns-then-no-eq0
-returns-then-no-eq0 c =
-    let is = c.turn_back-no.ensures.value in
-    let output = c.turn_back-no.ensures.output_after in
-    let table = c.turn_back-no.ensures.table_after in
-    let every = restore-yes c.args.sheet.now c.args.table.now c.args.list.now c.args.output.now
-    (room (goal.at.returns-then-no-eq0 c).Then-has_room) _ is c.if-no-eq0.true
-    (table c.if-no-eq0.true ∙ ap (indexed_before c.args.sheet.now) c.clear.ensures) output in
+pub returns-then-is_err : goal.returns-then-is_err
+returns-then-is_err c =
+    let made = c.turn_back-turned.ensures in
+    let zeros : c.fill-then-is_err.new.self ≡ replicate (length c.args.table.now) 0 = search rules in
+    let one = sym c.has_room.ensures ∙ c.if-not-has_room.false in
+    let every = restore-refused c.args.sheet.now c.args.table.now c.args.list.now c.args.output.now one made.value made.output_after
+    (sym c.is_err.ensures.value ∙ c.if-is_err.true) zeros in
     record { answer = every.0; output = every.1.0; table = every.1.1 }
 
-pub returns-then-has_room : goal.returns-then-has_room
-returns-then-has_room c =
-    let is = c.turn_back-no.ensures.value in
-    let output = c.turn_back-no.ensures.output_after in
-    let table = c.turn_back-no.ensures.table_after in
-    let long : length c.turn_back-no.new.table ≡ length c.args.table.now =
-    omega (arith, cleared-length-of (goal.at.returns-then-has_room c).After-clear) in
-    let every = restore-no c.args.sheet.now c.args.table.now c.args.list.now c.args.output.now
-    (room (goal.at.returns-then-has_room c).Then-has_room) _ is c.if-no-eq0.false
-    c.turn_back-no.new.table long c.clear-then-has_room.ensures output in
-    record { answer = every.0; output = every.1.0; table = every.1.1 }
-
-pub returns : goal.returns
-returns c = let every = restore-short _ _ _ _ (sym c.has_room.ensures ∙ c.if-has_room.false) in
+pub returns-else-is_err : goal.returns-else-is_err
+returns-else-is_err c =
+    let made = rw (c.fill.ensures.after (λ _ e. e)) at c.turn_back-turned.ensures in
+    let one = sym c.has_room.ensures ∙ c.if-not-has_room.false in
+    let every = restore-done c.args.sheet.now c.args.table.now c.args.list.now c.args.output.now one made.value made.output_after
+    (sym c.is_err.ensures.value ∙ c.if-is_err.false) made.table_after in
     record { answer = every.0; output = every.1.0; table = every.1.1 }

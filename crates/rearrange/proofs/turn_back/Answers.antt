@@ -1,89 +1,78 @@
-use mathlib.Core.Path.{sym, ◌∙◌}
 use Prim.Native.Nat.{ℕ}
-use mathlib.Core.Bool.{Bool}
+use mathlib.Core.Path.{◌≡◌, refl, sym, ap, ◌∙◌}
 use mathlib.Core.List.{List}
 use native.Mathlib.Omega.{arith}
-use Rattle.model.specs.Format.{Bytes, head_tag}
-use Rattle.model.specs.Read.{problem_of}
-use Rattle.model.specs.Questions.{question6}
-use Rattle.order.specs.Asking.{question11_back, restored_bytes}
-use Rattle.questions.proofs.Asking.{Fielded, fielded}
-use Rattle.rearrange.specs.Turning.{Ready}
-use Rattle.rearrange.proofs.Turning.{then-turn, fields-turn, ready-from, zeros-asks, back-turned, given-none, given-some}
+use Rattle.std.proofs.Common.{Err}
+use Rattle.std.proofs.lemmas.Result.{err_from_is_err_and}
+use Rattle.model.specs.Format.{head_tag}
+use Rattle.model.specs.Read.{problem_of, cells_of}
+use Rattle.model.specs.Questions.{question6, Question, first_no}
+use Rattle.order.specs.Asking.{question11_back, turn_states, back_questions, restored_bytes}
+use Rattle.questions.specs.Verdicts.{verdict}
+use Rattle.questions.proofs.Asking.{Fielded, fielded, accepted-none, then-more, first_of}
+use Rattle.rearrange.proofs.Turning.{zeros-asks, back-turned, given-none, given-some}
 use Rattle.rearrange.proofs.turn_back.Goals as goal
-use Rattle.rearrange.proofs.turn_back.Goals.{After-count_of-n, Then-no-eq0}
+use Rattle.rearrange.proofs.turn_back.Goals.{In_ok-ask_fields, In_err-ask_fields}
 
--- questions 6 and 11 of an ordinary sheet and a list
-abbrev back-six : List ℕ → Unit {0} → Bool
-back-six s = λ _. question6 (problem_of s)
+-- the questions about the states of an ordinary sheet and a list
+abbrev of_states : List ℕ → List ℕ → List Question
+of_states s l = turn_states (problem_of s) (cells_of s) (λ _. question6 (problem_of s)) (λ _. question11_back (problem_of s) l)
 
-abbrev back-eleven : List ℕ → List ℕ → Unit {0} → Bool
-back-eleven s l = λ _. question11_back (problem_of s) l
-
--- the fields are in place, and the number of states is known
-in_place : (c : Then-no-eq0) → Fielded c.args.sheet.now c.fields_no-no.new.table
+-- the fields are in place, and the verdict on the states is that on all
+in_place : (c : In_ok-ask_fields) → Fielded c.args.sheet.now c.ask_fields.new.table
 in_place c =
-    let bytes : Bytes c.args.sheet.now = (λ i. (c.type_inv.sheet i).fits) in
-    let is = c.fields_no-no.ensures.value in
-    let table = c.fields_no-no.ensures.table_after in
-    fielded head_tag _ _ _ _ (omega arith) bytes (sym is ∙ c.if-no-eq0.true) (table c.if-no-eq0.true)
+    let is = c.in_ok-ask_fields.ensures.value in
+    fielded head_tag _ _ _ _ (omega arith) (λ i. (c.type_inv.sheet i).fits) (accepted-none _ (sym is))
+    c.in_ok-ask_fields.ensures.table_after
 
-ready_of : (c : After-count_of-n) → Ready c.args.sheet.now c.fields_no-no.new.table c.count_of-n.result
-ready_of c =
-    let bytes : Bytes c.args.sheet.now = (λ i. (c.type_inv.sheet i).fits) in
-    let in_place : Fielded c.args.sheet.now c.fields_no-no.new.table =
-    (let is = c.fields_no-no.ensures.value in let table = c.fields_no-no.ensures.table_after in
-    fielded head_tag _ _ _ _ (omega arith) bytes (sym is ∙ c.if-no-eq0.true) (table c.if-no-eq0.true)) in
-    ready-from _ in_place c.count_of-n.ensures.0
+then-all : (c : In_ok-ask_fields) → let s = c.args.sheet.now in let l = c.args.list.now in
+    verdict (first_no (of_states s l)) ≡ verdict (first_no (back_questions s l))
+then-all c = ap verdict (sym (then-more _ _ refl (sym c.in_ok-ask_fields.ensures.value)))
 
-pub count_of-n-requires : goal.count_of-n-requires
-count_of-n-requires c =
-    (in_place c).long
+-- refused by the fields
+by_fields : (c : In_err-ask_fields) →
+    Err c.in_err-ask_fields.field-0.0 ≡ verdict (first_no (back_questions c.args.sheet.now c.args.list.now))
+by_fields c = first_of _ (of_states c.args.sheet.now c.args.list.now) refl _ (sym c.in_err-ask_fields.ensures.value)
 
-pub back_no-rest-requires : goal.back_no-rest-requires
-back_no-rest-requires c =
-    let ready = ready_of (goal.at.back_no-rest-requires c).After-count_of-n in record {
-      ready = ready;
-      n_in_bounds = (omega (arith, ready.count, ready.within.sheet.shaped.most, c.requires.2), (zeros-asks ready).0, (zeros-asks ready).1);
+pub returns-in_err-ask_fields : goal.returns-in_err-ask_fields
+returns-in_err-ask_fields c =
+    let p = err_from_is_err_and c.from_residual.result c.from_residual.ensures.1 in
+    let err = by_fields (goal.at.returns-in_err-ask_fields c).In_err-ask_fields in record {
+      value = rw (p.1, p.2) err;
+      output_after = given-some _ _ err (restored_bytes c.args.sheet.now c.args.list.now) c.args.output.now;
+      table_after = rw p.1 tt;
     }
 
-pub put_sheet-requires : goal.put_sheet-requires
-put_sheet-requires c =
-    let (inside, numbers, _) = c.back_no-rest.ensures.inside c.if-rest-eq0.true in record {
-      ready = ready_of (goal.at.put_sheet-requires c).After-count_of-n;
-      inside = (inside, numbers);
-      sheet_in_bounds = c.requires.1;
+pub new-ordinary-requires : goal.new-ordinary-requires
+new-ordinary-requires c = (in_place c).within.sheet
+
+pub ask_back-requires : goal.ask_back-requires
+ask_back-requires c =
+    let placed = in_place (goal.at.ask_back-requires c).In_ok-ask_fields in
+    let zeros = zeros-asks placed in rw c.new-ordinary.ensures record {
+      rooms = (omega (arith, placed.within.sheet.shaped.most, c.requires.2), zeros.0);
+      zeros = zeros.1;
     }
 
-pub returns-then-rest-eq0 : goal.returns-then-rest-eq0
-returns-then-rest-eq0 c =
-    let is = c.fields_no-no.ensures.value in
-    let table = c.fields_no-no.ensures.table_after in
-    let none = c.if-no-eq0.true in
-    let (_, _, numbers) = c.back_no-rest.ensures.inside c.if-rest-eq0.true in
-    let s = c.args.sheet.now in
-    let l = c.args.list.now in
-    let out = c.args.output.now in record {
-      value = sym c.if-rest-eq0.true ∙ c.back_no-rest.ensures.value ∙ then-turn head_tag s (back-six s) (back-eleven s l) _ is none;
-      output_after = c.put_sheet.ensures ∙ back-turned s _ _ l out c.count_of-n.ensures.0 numbers ∙ given-none (restored_bytes s l) out;
-      table_after = λ _. table none;
-    }
-
-pub returns-then-no-eq0 : goal.returns-then-no-eq0
-returns-then-no-eq0 c =
-    let s = c.args.sheet.now in
-    let l = c.args.list.now in record {
-      value = c.back_no-rest.ensures.value ∙ then-turn head_tag s (back-six s) (back-eleven s l) _ c.fields_no-no.ensures.value
-          c.if-no-eq0.true;
-      output_after = given-some _ c.if-rest-eq0.false (restored_bytes s l) c.args.output.now;
-      table_after = λ z. absurd (c.if-rest-eq0.false z);
+pub returns-in_err-ask_back : goal.returns-in_err-ask_back
+returns-in_err-ask_back c =
+    let p = err_from_is_err_and c.from_residual-in_err-ask_back.result c.from_residual-in_err-ask_back.ensures.1 in
+    let all = then-all (goal.at.returns-in_err-ask_back c).In_ok-ask_fields in
+    let err = rw c.new-ordinary.ensures at c.in_err-ask_back.ensures.value ∙ all in record {
+      value = rw (p.1, p.2) err;
+      output_after = given-some _ _ err (restored_bytes c.args.sheet.now c.args.list.now) c.args.output.now;
+      table_after = rw p.1 tt;
     }
 
 pub returns : goal.returns
 returns c =
     let s = c.args.sheet.now in
-    let l = c.args.list.now in record {
-      value = fields-turn head_tag s (back-six s) (back-eleven s l) _ c.fields_no-no.ensures.value c.if-no-eq0.false;
-      output_after = given-some _ c.if-no-eq0.false (restored_bytes s l) c.args.output.now;
-      table_after = λ z. absurd (c.if-no-eq0.false z);
+    let l = c.args.list.now in
+    let out = c.args.output.now in
+    let (_, _, numbers) = rw c.new-ordinary.ensures at c.in_ok-ask_back.ensures.inside in
+    let all = rw c.new-ordinary.ensures at c.in_ok-ask_back.ensures.value ∙ then-all (goal.at.returns c).In_ok-ask_fields in record {
+      value = all;
+      output_after = rw c.new-ordinary.ensures at c.put_sheet.ensures ∙ back-turned s _ _ l out refl numbers ∙
+          given-none _ all (restored_bytes s l) out;
+      table_after = c.in_ok-ask_fields.ensures.table_after;
     }

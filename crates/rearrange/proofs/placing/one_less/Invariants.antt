@@ -1,9 +1,5 @@
-use Prim.Native.Nat.{◌-◌}
 use Rattle.rearrange.proofs.Places.{Lowered}
 use Rattle.rearrange.proofs.placing.one_less.Given as goal
 
-abbrev pub invariant-loop-t : goal.invariant-loop-t
-invariant-loop-t l = Lowered l.n l.initial.new l.new l.t
-
-abbrev pub decreases-loop-t : goal.decreases-loop-t
-decreases-loop-t l = l.n - l.t
+abbrev pub invariant-loop-w : goal.invariant-loop-w
+invariant-loop-w l = Lowered l.n l.initial.w-items l.w-items l.w-index

@@ -1,10 +1,6 @@
-use Prim.Native.Nat.{◌-◌}
 use Rattle.model.specs.Read.{problem_of}
 use Rattle.rearrange.proofs.Run.{Run}
 use Rattle.rearrange.proofs.placing.place_all.Given as goal
 
 abbrev pub invariant-loop-k : goal.invariant-loop-k
 invariant-loop-k l = Run (problem_of l.sheet) l.n l.initial.waits l.initial.old l.waits l.old l.low l.k
-
-abbrev pub decreases-loop-k : goal.decreases-loop-k
-decreases-loop-k l = l.n - l.k

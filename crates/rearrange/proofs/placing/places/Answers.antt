@@ -3,10 +3,6 @@ use native.Mathlib.Omega.{arith}
 use Rattle.rearrange.proofs.Places.{places-are}
 use Rattle.rearrange.proofs.placing.places.Goals as goal
 
-pub one_less-requires : goal.one_less-requires
-one_less-requires c =
-    omega (arith, c.mark_places.ensures.same, c.requires.n_in_bounds.1)
-
 pub returns : goal.returns
 returns c =
     let (long, wide, _) = c.requires.n_in_bounds in
