@@ -1,38 +1,36 @@
 -- Numbers written as bytes, one after the other, and a table's entries as bytes.
-use Prim.Native.Nat.{ℕ, zero, suc, ◌+◌, ◌*◌, ◌/◌, ◌%◌, ◌<◌, ◌≤◌}
-use mathlib.Core.Path.{◌≡◌, refl, ap, sym, ◌∙◌}
+use Prim.Native.Nat.{ℕ, zero, suc, ◌+◌, ◌-◌, ◌*◌, ◌/◌, ◌%◌, ◌<◌, ◌≤◌}
+use mathlib.Core.Path.{◌≡◌, refl, sym, ◌∙◌}
 use mathlib.Core.List.{List, [], ◌∷◌, ◌++◌, append_assoc}
 use native.Mathlib.Omega.{arith}
 use native.Mathlib.Numerals.{add-one}
-use lib.ListN.{length, get_or, take, drop, set, replicate, take-append-drop, length-append, length-replicate}
-use lib.Seq.{take_all, take-suc, drop-drop, sets-eq}
+use borrow.Rule.Slice.PartMut.{put_mid}
+use lib.ListN.{length, get_or, take, drop, replicate}
+use lib.Seq.{take_all, take-suc, drop-drop}
+use Rattle.std.specs.Int.{w64, to_le_bytes}
+use Rattle.std.proofs.lemmas.List.{take_at, drop_at, length-take-le}
 use Rattle.layout.specs.Placed.{placed}
-use Rattle.layout.proofs.Placed.{placed-length, placed-before, placed-after, placed-then}
 use Rattle.host.specs.Host.{le32, le64, entry_bytes}
 use Rattle.host.specs.Served.{filled_up}
 
--- four stores, one after the other, of a number's bytes
-pub stored : (s : List ℕ) (at x a b c d : ℕ) → at + 4 ≤ length s → a ≡ x % 256 → b ≡ x / 256 % 256 →
-    c ≡ x / 65536 % 256 →
-    d ≡ x / 16777216 % 256 → set (set (set (set s at a) (at + 1) b) (at + 2) c) (at + 3) d ≡ placed at (le32 x) s
-stored s at x a b c d h p q r t =
-    let one : at + 1 ≡ suc at = omega arith in
-    let two : at + 2 ≡ suc (suc at) = omega arith in
-    let three : at + 3 ≡ suc (suc (suc at)) = omega arith in
-    rw (one, two, three, p, q, r, t) (sets-eq (le32 x) s at h ∙ append_assoc (take at s) (le32 x) (drop (at + 4) s))
-
 -- three numbers of eight bytes from the start
-pub three-put : (s s' s'' s''' : List ℕ) (x y z : ℕ) → 24 ≤ length s → s' ≡ placed 0 (le64 x) s →
-    s'' ≡ placed 8 (le64 y) s' →
-    s''' ≡ placed 16 (le64 z) s'' → s''' ≡ placed 0 (le64 x ++ (le64 y ++ le64 z)) s
-three-put s s' s'' s''' x y z h p q r =
-    let long : length s' ≡ length s = ap length p ∙ placed-length s 0 (le64 x) (omega arith) in
-    placed-then s s' s''' (le64 x) (le64 y ++ le64 z) 0 (omega arith) p (placed-then s' s'' s''' (le64 y) (le64 z) 8 (omega arith) q r)
+eight : (x : ℕ) → to_le_bytes w64 x ≡ le64 x
+eight x =
+    let a : x % 256 ≡ x % 4294967296 % 256 = omega arith in
+    let b : x / 256 % 256 ≡ x % 4294967296 / 256 % 256 = omega arith in
+    let c : x / 65536 % 256 ≡ x % 4294967296 / 65536 % 256 = omega arith in
+    let d : x / 16777216 % 256 ≡ x % 4294967296 / 16777216 % 256 = omega arith in
+    let e : x / 1099511627776 % 256 ≡ x / 4294967296 / 256 % 256 = omega arith in
+    let f : x / 281474976710656 % 256 ≡ x / 4294967296 / 65536 % 256 = omega arith in
+    let g : x / 72057594037927936 % 256 ≡ x / 4294967296 / 16777216 % 256 = omega arith in
+    cc
 
--- One more entry of a table that is filled up with zeros.
-filled-count : (t : List ℕ) (n : ℕ) → length t ≤ n → length (filled_up t n) ≡ n
-filled-count t n h = rw (length-append, length-replicate) (omega arith)
+pub three-put : (s a b c : List ℕ) (x y z : ℕ) → a ≡ to_le_bytes w64 x → b ≡ to_le_bytes w64 y → c ≡ to_le_bytes w64 z →
+    put_mid 16 8 (put_mid 8 8 (a ++ drop 8 s) b) c ≡ placed 0 (le64 x ++ (le64 y ++ le64 z)) s
+three-put s a b c x y z p q r =
+    rw (p ∙ eight x, q ∙ eight y, r ∙ eight z, drop-drop 8 8 s, drop-drop 8 16 s)
 
+-- An entry of a table that is filled up with zeros.
 pub filled_at : (t : List ℕ) (k i : ℕ) → get_or (t ++ replicate k 0) i 0 ≡ get_or t i 0
 filled_at [] zero i = refl
 filled_at [] (suc k) zero = refl
@@ -45,46 +43,51 @@ unfolding entry_bytes
 entries-joined [] ys = refl
 entries-joined (x ∷ xs) ys = rw (entries-joined xs ys)
 
--- the loop over the entries
-pub record Entered (bytes₀ table : List ℕ) (n : ℕ) (bytes : List ℕ) (i : ℕ) : Type 0 where
-  pub fits : length table ≤ n
-  pub upto : i ≤ n
-  pub long : length bytes ≡ length bytes₀
-  pub done : take (4 * i) bytes ≡ entry_bytes (take i (filled_up table n))
-  pub rest : drop (4 * i) bytes ≡ drop (4 * i) bytes₀
-
-pub entered-none : (bytes table : List ℕ) (n : ℕ) → length table ≤ n → Entered bytes table n bytes 0
+pub entries-length : (xs : List ℕ) → length (entry_bytes xs) ≡ 4 * length xs
 unfolding entry_bytes
-entered-none bytes table n fits = record { fits = fits; upto = omega arith; long = refl; done = refl; rest = refl }
+entries-length [] = refl
+entries-length (x ∷ xs) = omega (arith, entries-length xs)
 
-pub entered-more : (bytes₀ table : List ℕ) (n : ℕ) (bytes : List ℕ) (i : ℕ) → Entered bytes₀ table n bytes i → i < n →
-    4 * n ≤ length bytes₀ → (x : ℕ) → x ≡ get_or table i 0 → (bytes' : List ℕ) →
-    length bytes' ≡ length bytes → bytes' ≡ placed (4 * i) (le32 x) bytes → Entered bytes₀ table n bytes' (i + 1)
+entries-zero : (n : ℕ) → entry_bytes (replicate n 0) ≡ replicate (4 * n) 0
 unfolding entry_bytes
-entered-more bytes₀ table n bytes i h lt room x at bytes' same e = record {
-  fits = h.fits;
-  upto = omega arith;
-  long = same ∙ h.long;
-  done =
-      rw (next, e, placed-before bytes (4 * i) (le32 x) inside)
-      (rw (add-one, take-suc (filled_up table n) i 0 within, entries-joined, filled_at, ← at, h.done));
-  rest =
-      rw (next, e, placed-after bytes (4 * i) (le32 x) inside)
-      (sym (drop-drop 4 (4 * i) bytes) ∙ ap (drop 4) h.rest ∙ drop-drop 4 (4 * i) bytes₀);
-}
-  where
-    next : 4 * (i + 1) ≡ 4 * i + 4
-    next = omega arith
+entries-zero zero = refl
+entries-zero (suc n) = let e : 4 * suc n ≡ suc (suc (suc (suc (4 * n)))) = omega arith in rw (e, entries-zero n)
 
-    within : i < length (filled_up table n)
-    within = omega (arith, filled-count table n h.fits)
+-- a part of a slice written over, right behind a front
+put-behind : (front rest s : List ℕ) (a k : ℕ) (w : List ℕ) → s ≡ front ++ rest → length front ≡ a →
+    put_mid a k s w ≡ front ++ (w ++ drop k rest)
+put-behind front rest s a k w e long = rw (e, take_at front rest a long, drop_at front rest a long)
 
-    inside : 4 * i + 4 ≤ length bytes
-    inside = omega (arith, h.long)
+-- a table's entries written from the start: none, one more, and zeros behind them all
+abbrev pub Entered : List ℕ → List ℕ → List ℕ → ℕ → Type 0
+Entered bytes₀ table bytes i = bytes ≡ entry_bytes (take i table) ++ drop (4 * i) bytes₀
 
-pub entered_all : (bytes₀ table : List ℕ) (n : ℕ) (bytes : List ℕ) (i : ℕ) → Entered bytes₀ table n bytes i → n ≤ i →
-    bytes ≡ entry_bytes (filled_up table n) ++ drop (4 * n) bytes₀
-entered_all bytes₀ table n bytes i h le =
-    let end : i ≡ n = omega (arith, h.upto) in
-    let all = take_all n (filled_up table n) (omega (arith, filled-count table n h.fits)) in
-    sym (take-append-drop (4 * i) bytes) ∙ rw (h.done, h.rest, end, all)
+module _ (bytes₀ table : List ℕ) where
+  pub entered-none : Entered bytes₀ table bytes₀ 0
+  unfolding entry_bytes
+  entered-none = refl
+
+  front-long : (i : ℕ) → i ≤ length table → length (entry_bytes (take i table)) ≡ 4 * i
+  front-long i le = entries-length (take i table) ∙ rw (length-take-le i table le)
+
+  module _ (bytes : List ℕ) (i : ℕ) (h : Entered bytes₀ table bytes i) (w : List ℕ) where
+    pub entered-more : i < length table → w ≡ le32 (get_or table i 0) →
+        Entered bytes₀ table (put_mid (4 * i) (4 * i + 4 - 4 * i) bytes w) (i + 1)
+    unfolding entry_bytes
+    entered-more lt e =
+        let four : 4 * i + 4 - 4 * i ≡ 4 = omega arith in
+        let next : 4 * (i + 1) ≡ 4 * i + 4 = omega arith in
+        put-behind _ _ bytes (4 * i) _ w h (front-long i (omega arith)) ∙
+        rw (four, next, add-one, take-suc table i 0 lt, entries-joined, drop-drop 4 (4 * i) bytes₀, e)
+        (sym (append_assoc (entry_bytes (take i table)) (le32 (get_or table i 0)) (drop (4 * i + 4) bytes₀)))
+
+    pub entered-all : (n k : ℕ) → length table ≤ i → i ≤ length table → w ≡ replicate k 0 → k ≡ 4 * (n - length table) → length table ≤ n →
+        put_mid (4 * length table) (4 * n - 4 * length table) bytes w ≡ entry_bytes (filled_up table n) ++ drop (4 * n) bytes₀
+    entered-all n k ge le e long fits =
+        let end : i ≡ length table = omega arith in
+        let left : 4 * n - 4 * length table ≡ 4 * (n - length table) = omega arith in
+        let all : 4 * length table + 4 * (n - length table) ≡ 4 * n = omega arith in
+        let whole : take (length table) table ≡ table = take_all (length table) table (omega arith) in
+        put-behind _ _ bytes (4 * length table) _ w (rw end at h) (front-long (length table) (omega arith)) ∙
+        rw (e, long, left, whole, drop-drop (4 * (n - length table)) (4 * length table) bytes₀, all, entries-joined, entries-zero)
+        (sym (append_assoc (entry_bytes table) (replicate (4 * (n - length table)) 0) (drop (4 * n) bytes₀)))

@@ -8,7 +8,7 @@ use lib.ListN.{length, drop, replicate, length-replicate}
 use Rattle.model.specs.declared.Answer.{Answer}
 use Rattle.model.specs.Format.{head_tag, be16, states_in}
 use Rattle.model.specs.Limits.{max_states}
-use Rattle.model.specs.Questions.{question3, refusal}
+use Rattle.model.specs.Questions.{refusal}
 use Rattle.model.specs.Report.{number, refused, on_refusal, answer_under, bytes_under}
 use Rattle.layout.proofs.Heads.{head-same}
 use Rattle.theory.proofs.LimitLaws.{room-no}
@@ -19,40 +19,31 @@ use Rattle.host.specs.Host.{le64, entry_bytes, entries, host_number, host_sheet,
 use Rattle.host.specs.HostCalls.{Hosted}
 use Rattle.host.specs.Served.{filled_up, few_states, Serves, Worked}
 
--- a table of zeros that serves a sheet: one for few states, and one for any sheet
-serves-zeros : (m : ℕ) (s t : List ℕ) → m ≤ max_states → question3 head_tag m s ≡ question3 head_tag max_states s → max_states ≤ entries t →
-    Serves (replicate m 0) s t
-serves-zeros m s t most head room =
-    let long : length {A = ℕ} (replicate m 0) ≡ m = length-replicate m 0 in
-    record { zeros = rw long; most = rw long most; head = rw long head; room = room }
+-- how many entries serve a sheet: one number for few states, and one for any sheet
+pub serves-few : (s t : List ℕ) → max_states ≤ entries t → be16 s states_in ≤ few_states → Serves few_states s t
+serves-few s t room few =
+    record { most = omega arith; head = head-same head_tag few_states max_states s few (omega arith); room = room }
 
-pub serves-few : (s t : List ℕ) → max_states ≤ entries t → be16 s states_in ≤ few_states → Serves (replicate few_states 0) s t
-serves-few s t room few = serves-zeros few_states s t (omega arith) (head-same head_tag few_states max_states s few (omega arith)) room
-
-pub serves-all : (s t : List ℕ) → max_states ≤ entries t → Serves (replicate max_states 0) s t
-serves-all s t room = serves-zeros max_states s t (omega arith) refl room
+pub serves-all : (s t : List ℕ) → max_states ≤ entries t → Serves max_states s t
+serves-all s t room = record { most = omega arith; head = refl; room = room }
 
 -- what the work on such a table leaves is what a call with the host's table leaves
-zeros-worked : (s t : List ℕ) (budget m : ℕ) → m ≤ max_states → question3 head_tag m s ≡ question3 head_tag max_states s →
-    max_states ≤ entries t → {a : Answer} {s' w t' : List ℕ} → Filled s (replicate m 0) budget a s' w →
-    length w ≡ m → t' ≡ entry_bytes (filled_up w (entries t)) ++ drop (4 * entries t) t → Worked s t budget a s' t'
-zeros-worked s t budget m most head room f long put =
+pub worked-on : {m : ℕ} {s t : List ℕ} → Serves m s t → (budget : ℕ) {a : Answer} {s' w t' : List ℕ} →
+    Filled s (replicate m 0) budget a s' w → length w ≡ m →
+    t' ≡ entry_bytes (filled_up w (entries t)) ++ drop (4 * entries t) t → Worked s t budget a s' t'
+worked-on {m} {s} {t} h budget f long put =
     let n = entries t in
     let zeros-long : length {A = ℕ} (replicate m 0) ≡ m = length-replicate m 0 in
     let whole_long : length {A = ℕ} (replicate n 0) ≡ n = length-replicate n 0 in
-    let (answered, (written, filled)) = zeros-solved s budget m most f in
-    let longer = table-longer m max_states s head (replicate m 0) (replicate n 0) budget (omega arith) (omega arith) (omega arith) in
+    let (answered, (written, filled)) = zeros-solved s budget m h.most f in
+    let room = h.room in
+    let most = h.most in
+    let longer = table-longer m max_states s h.head (replicate m 0) (replicate n 0) budget (omega arith) (omega arith) (omega arith) in
     record {
-      answer = answered ∙ rw zeros-long (sym (answer-same m max_states s head m n budget (omega arith) room));
-      sheet = written ∙ rw zeros-long (sym (bytes_same m max_states s head m n budget (omega arith) room));
+      answer = answered ∙ rw zeros-long (sym (answer-same m max_states s h.head m n budget (omega arith) room));
+      sheet = written ∙ rw zeros-long (sym (bytes_same m max_states s h.head m n budget (omega arith) room));
       table = put ∙ rw (longer, ← filled, zeros-long, whole_long, long);
     }
-
-pub worked-on : {index s t : List ℕ} → Serves index s t → (budget : ℕ) {a : Answer} {s' w t' : List ℕ} →
-    Filled s index budget a s' w → length w ≡ length index →
-    t' ≡ entry_bytes (filled_up w (entries t)) ++ drop (4 * entries t) t → Worked s t budget a s' t'
-worked-on {index} {s} {t} h budget f long put =
-    zeros-worked s t budget (length index) h.most h.head h.room (rw h.zeros at f) long put
 
 -- what `put_answer` leaves
 abbrev Told : List ℕ → Answer → List ℕ
@@ -71,9 +62,9 @@ module _ (s t : List ℕ) (budget : ℕ) (r : List ℕ) where
         let no : refusal s (entries t) budget ≡ 1 = room-no max_states s (entries t) budget few in
         rw (le-leb 24 (length r) room, no, lt-leb max_states (entries t) few) (refl, (refl, (refl, told ∙ rw e)))
 
-    pub long-table : max_states ≤ entries t → (s' t' : List ℕ) (k : ℕ) → Worked s t budget a s' t' →
+    pub enough-table : max_states ≤ entries t → (s' t' : List ℕ) (k : ℕ) → Worked s t budget a s' t' →
         k ≡ number a.outcome → Hosted s t budget r k s' t' r'
     unfolding host_number host_sheet host_table host_result
-    long-table enough s' t' k worked e =
+    enough-table enough s' t' k worked e =
         rw (le-leb 24 (length r) room, le-leb max_states (entries t) enough, ← worked.answer, ← worked.sheet)
         (e, (refl, (worked.table, told)))

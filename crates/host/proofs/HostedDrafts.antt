@@ -1,50 +1,40 @@
 -- The host's calls on drafts: from an index table and a list of their own to the host's, over plain variables.
-use Prim.Native.Nat.{ℕ, zero, suc, ◌*◌, ◌<◌, ◌≤◌}
+use Prim.Native.Nat.{ℕ, zero, suc, ◌≤◌}
 use mathlib.Core.Path.{◌≡◌, refl, sym, ap, ◌∙◌}
-use mathlib.Core.Bool.{true, false}
+use mathlib.Core.Bool.{Bool, true, false}
 use mathlib.Core.Logic.{◌⊎◌}
 use mathlib.Core.List.{List, ◌∷◌}
 use native.Mathlib.Omega.{arith}
-use borrow.Author.Tests.{leb-true}
-use lib.ListN.{length, take}
+use lib.ListN.{length, take, replicate, length-replicate}
 use Rattle.model.specs.Limits.{max_states}
 use Rattle.model.specs.Problem.{states}
 use Rattle.model.specs.Format.{head_tag, draft_tag}
 use Rattle.model.specs.Read.{problem_of}
 use Rattle.model.specs.Questions.{question, first_no}
 use Rattle.model.specs.Report.{on_refusal}
-use Rattle.model.proofs.TestLaws.{all_true}
 use Rattle.model.proofs.QuestionLaws.{first-from, none-no}
 use Rattle.layout.proofs.Index.{states-within}
 use Rattle.questions.specs.Verdicts.{verdict, verdict_number}
-use Rattle.questions.proofs.Asking.{verdict-number}
-use Rattle.questions.specs.declared.Verdict.{Verdict}
-use Rattle.questions.specs.declared.Verdict.TheVariants.{Accepted, Refused}
+use Rattle.questions.proofs.Asking.{verdict-number, accepted-none, refused-some}
+use Rattle.std.proofs.Common.{Ok, Err}
 use Rattle.order.specs.Order.{order}
 use Rattle.order.specs.Asking.{question1_lent, draft_questions, back_questions, rearrange_refusal, restore_refusal}
 use Rattle.order.specs.Asking.{restored_bytes, output_given, rearranged_output, rearranged_list}
 use Rattle.order.specs.Asking.{rearranged_table, restored_output, restored_table}
 use Rattle.order.proofs.Sheets.{unrefused-draft}
 use Rattle.order.proofs.Unread.{back-same}
-use Rattle.rearrange.proofs.Lending.{short-table, short-output, short-list, room-enough}
+use Rattle.rearrange.proofs.Lending.{room-enough, room_says}
 use Rattle.host.specs.Host.{entries, as_bytes, host_table_given}
 use Rattle.host.specs.Served.{filled_up}
 use Rattle.host.specs.HostDrafts.{numbers_in, host_numbers, order_list, number_given, draft_refusal, host_rearrange, host_rearrange_table}
 use Rattle.host.specs.HostDrafts.{host_rearrange_output, host_rearrange_list, back_refusal, host_restore, host_restore_table}
-use Rattle.host.specs.HostDrafts.{host_restore_output, HostedRearrange, HostedRestore, Lent}
+use Rattle.host.specs.HostDrafts.{host_restore_output, HostedRearrange, HostedRestore}
 use Rattle.host.proofs.Tables.{filled_more, table-given}
 use Rattle.host.proofs.Numbers.{numbers-length, numbers-take}
 
--- What a verdict says of the refusal.
-accepted-none : {v : Verdict} {r : ℕ} → v ≡ verdict r → v ≡ Accepted → r ≡ 0
-accepted-none {v} {r} e is = sym (verdict-number r) ∙ ap verdict_number (sym e ∙ is)
-
-refused-some : {v : Verdict} {r n : ℕ} → v ≡ verdict r → v ≡ Refused n → (r ≡ n) × (r ≡ 0 → ⊥)
-unfolding verdict
-refused-some {v} {r} {n} e is = (sym (verdict-number r) ∙ ap verdict_number (sym e ∙ is), λ z. never (sym is ∙ e ∙ ap verdict z))
-  where
-    never : Refused n ≡ verdict 0 → ⊥
-    never w = let f : ◌≡◌ {A = ℕ} 0 1 = cc in omega (arith, f)
+-- the refusal of a verdict that refuses
+refused-number : {r n : ℕ} → Err n ≡ verdict r → r ≡ n
+refused-number {r} e = sym (verdict-number r) ∙ ap verdict_number (sym e)
 
 -- the number and a slice after a refusal
 number-some : (r did : ℕ) → (r ≡ 0 → ⊥) → number_given r did ≡ r
@@ -56,6 +46,28 @@ kept-some : (r : ℕ) (made kept : List ℕ) → (r ≡ 0 → ⊥) → on_refusa
 unfolding on_refusal
 kept-some zero made kept some = absurd (some refl)
 kept-some (suc r) made kept some = refl
+
+-- An index table and a list of a call's own, long enough, for the host's table t and list l; and room for the sheet s in the output o: as a
+-- call has them where there is room.
+pub record Lent (index numbers s t o l : List ℕ) : Type 0 where
+  pub index_room : max_states ≤ length index
+  pub index_fits : length index ≤ entries t
+  pub list_room : max_states ≤ length numbers
+  pub list_fits : length numbers ≤ entries l
+  pub output_room : length s ≤ length o
+
+pub lent-own : {s t o l : List ℕ} {b : Bool} → b ≡ question1_lent s (entries t) (length o) (entries l) → b ≡ true →
+    Lent (replicate max_states 0) (replicate max_states 0) s t o l
+lent-own is holds =
+    let (table, output, list) = room_says _ _ _ _ (sym is ∙ holds) in
+    let long : length {A = ℕ} (replicate max_states 0) ≡ max_states = length-replicate {A = ℕ} max_states 0 in
+    record {
+      index_room = omega (arith, long);
+      index_fits = omega (arith, long, table);
+      list_room = omega (arith, long);
+      list_fits = omega (arith, long, list);
+      output_room = output;
+    }
 
 -- The rearranger on an index table and a list of its own.
 module _ {index numbers s t o l : List ℕ} (h : Lent index numbers s t o l) where
@@ -107,38 +119,24 @@ module _ {index numbers s t o l : List ℕ} (h : Lent index numbers s t o l) whe
     unfolding rearranged_output host_rearrange_output
     output-put = output ∙ rw own_same
 
-    pub rearranged-refused : {v : Verdict} {n : ℕ} → v ≡ verdict own → v ≡ Refused n → HostedRearrange s t o l n t' o' l
+    pub rearranged-refused : {n : ℕ} → Err n ≡ verdict own → HostedRearrange s t o l n t' o' l
     unfolding host_rearrange host_rearrange_list
-    rearranged-refused e is =
-        let (same, some) = refused-some e is in
-        let not : draft_refusal s t o l ≡ 0 → ⊥ = λ z. some (own_same ∙ z) in (
-          sym same ∙ own_same ∙ sym (number-some (draft_refusal s t o l) 105 not),
+    rearranged-refused err =
+        let not : draft_refusal s t o l ≡ 0 → ⊥ = λ z. refused-some own _ (sym err) (own_same ∙ z) in (
+          sym (refused-number err) ∙ own_same ∙ sym (number-some (draft_refusal s t o l) 105 not),
           (table-put, (output-put, sym (kept-some (draft_refusal s t o l) (as_bytes (order_list (problem_of s) (entries l)) l) l not))),
         )
 
-    pub rearranged-done : {v : Verdict} → v ≡ verdict own → v ≡ Accepted → {numbers' l' : List ℕ} →
+    pub rearranged-done : Ok tt ≡ verdict own → {numbers' l' : List ℕ} →
         numbers' ≡ rearranged_list s index o numbers →
         l' ≡ as_bytes (filled_up numbers' (entries l)) l → HostedRearrange s t o l 105 t' o' l'
     unfolding host_rearrange on_refusal
-    rearranged-done e is listed written =
-        let none : own ≡ 0 = accepted-none e is in (rw (sym own_same ∙ none), (table-put, (output-put, list_put none listed written)))
+    rearranged-done ok listed written =
+        let none : own ≡ 0 = accepted-none own (sym ok) in
+        (rw (sym own_same ∙ none), (table-put, (output-put, list_put none listed written)))
 
--- A table, an output or a list that is too short: by the bytes, and what either call then does.
+-- What either call does for want of room.
 module _ (s t o l : List ℕ) where
-  pub table-too-short : length t < 4 * max_states → false ≡ question1_lent s (entries t) (length o) (entries l)
-  table-too-short a = sym (short-table s (entries t) (length o) (entries l) (omega (arith, a)))
-
-  pub output-too-short : 4 * max_states ≤ length t → length o < length s → false ≡ question1_lent s (entries t) (length o) (entries l)
-  output-too-short a b = sym (short-output s (entries t) (length o) (entries l) (omega (arith, a)) b)
-
-  pub list-too-short : 4 * max_states ≤ length t → length s ≤ length o → length l < 4 * max_states →
-      false ≡ question1_lent s (entries t) (length o) (entries l)
-  list-too-short a b c = sym (short-list s (entries t) (length o) (entries l) (omega (arith, a)) b (omega (arith, c)))
-
-  pub all-long : 4 * max_states ≤ length t → length s ≤ length o → 4 * max_states ≤ length l →
-      true ≡ question1_lent s (entries t) (length o) (entries l)
-  all-long a b c = sym (room-enough s (entries t) (length o) (entries l) (omega (arith, a)) b (omega (arith, c)))
-
   pub rearrange-no-room : question1_lent s (entries t) (length o) (entries l) ≡ false → HostedRearrange s t o l 1 t o l
   unfolding rearrange_refusal first_no host_rearrange host_rearrange_table host_table_given host_rearrange_output host_rearrange_list
       on_refusal
@@ -147,20 +145,6 @@ module _ (s t o l : List ℕ) where
   pub restore-no-room : question1_lent s (entries t) (length o) (entries l) ≡ false → HostedRestore s t l o 1 t o
   unfolding restore_refusal first_no host_restore host_restore_table host_table_given host_restore_output on_refusal
   restore-no-room e = rw (numbers-length, e) (refl, (refl, refl))
-
-  -- where there is room, an index table and a list of its own serve a call
-  pub lent-own : question1_lent s (entries t) (length o) (entries l) ≡ true → (index numbers : List ℕ) → length index ≡ max_states →
-      length numbers ≡ max_states → Lent index numbers s t o l
-  unfolding question1_lent
-  lent-own one index numbers a b =
-      let (table, (output, (list, _))) = all_true _ one in
-      record {
-        index_room = omega (arith, a);
-        index_fits = omega (arith, a, leb-true max_states (entries t) table);
-        list_room = omega (arith, b);
-        list_fits = omega (arith, b, leb-true max_states (entries l) list);
-        output_room = leb-true _ _ output;
-      }
 
 -- The inverse on an index table and a list of its own.
 module _ {index numbers₀ s t o l : List ℕ} (lent : Lent index numbers₀ s t o l) {numbers : List ℕ}
@@ -218,14 +202,12 @@ module _ {index numbers₀ s t o l : List ℕ} (lent : Lent index numbers₀ s t
         go zero e = rw (taken (back-few e))
         go (suc r) e = refl
 
-    pub restored-refused : {v : Verdict} {n : ℕ} → v ≡ verdict back → v ≡ Refused n → HostedRestore s t l o n t' o'
+    pub restored-refused : {n : ℕ} → Err n ≡ verdict back → HostedRestore s t l o n t' o'
     unfolding host_restore
-    restored-refused e is =
-        let (same, some) = refused-some e is in (
-          sym same ∙ back-refusal ∙ sym (number-some (back_refusal s t l o) 106 (λ z. some (back-refusal ∙ z))),
-          (table-back, output-back),
-        )
+    restored-refused err =
+        let not : back_refusal s t l o ≡ 0 → ⊥ = λ z. refused-some back _ (sym err) (back-refusal ∙ z) in
+        (sym (refused-number err) ∙ back-refusal ∙ sym (number-some (back_refusal s t l o) 106 not), (table-back, output-back))
 
-    pub restored-done : {v : Verdict} → v ≡ verdict back → v ≡ Accepted → HostedRestore s t l o 106 t' o'
+    pub restored-done : Ok tt ≡ verdict back → HostedRestore s t l o 106 t' o'
     unfolding host_restore on_refusal
-    restored-done e is = (rw (sym back-refusal ∙ accepted-none e is), (table-back, output-back))
+    restored-done ok = (rw (sym back-refusal ∙ accepted-none back (sym ok)), (table-back, output-back))

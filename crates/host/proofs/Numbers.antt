@@ -4,11 +4,14 @@ use mathlib.Core.Path.{◌≡◌, refl, sym, ap, ◌∙◌}
 use mathlib.Core.List.{List, [], ◌∷◌, ◌++◌}
 use native.Mathlib.Omega.{arith}
 use native.Mathlib.Numerals.{add-one}
-use lib.ListN.{length, get_or, set, take, drop, length-set, length-append, length-drop}
-use lib.Seq.{get_or-drop, take_all, take-suc-set}
+use lib.ListN.{length, get_or, set, take, drop, length-append, length-drop}
+use lib.Seq.{get_or-drop, take-suc-set}
+use Rattle.std.specs.Int.{w32, from_le_bytes}
+use Rattle.std.specs.Simd.{first_chunks}
 use Rattle.host.specs.Host.{entry_bytes, entries, as_bytes}
 use Rattle.host.specs.HostCalls.{read_le32}
 use Rattle.host.specs.HostDrafts.{numbers_in, host_numbers}
+use Rattle.host.proofs.Bytes.{entries-length}
 use Rattle.host.proofs.Promises.{back32}
 
 -- as many as are read
@@ -49,11 +52,6 @@ numbers-at (suc n) bytes (suc i) lt =
     numbers-at n (drop 4 bytes) i (omega arith) ∙ rw (read-drop 4 bytes (4 * i), e)
 
 -- Numbers of 32 bits that were written are read.
-entries-length : (xs : List ℕ) → length (entry_bytes xs) ≡ 4 * length xs
-unfolding entry_bytes
-entries-length [] = refl
-entries-length (x ∷ xs) = omega (arith, entries-length xs)
-
 numbers-back : (xs rest : List ℕ) → ((i : ℕ) → get_or xs i 0 < 4294967296) → numbers_in (length xs) (entry_bytes xs ++ rest) ≡ xs
 unfolding numbers_in entry_bytes
 numbers-back [] rest small = refl
@@ -67,26 +65,31 @@ pub as-numbers : (xs l : List ℕ) → length xs ≡ entries l → ((i : ℕ) �
 as-numbers xs l same small =
     ap (λ (n : ℕ). numbers_in n (as_bytes xs l)) (as-entries xs l same ∙ sym same) ∙ numbers-back xs (drop (4 * entries l) l) small
 
+-- the entries as arrays of four bytes: the number in each of them
+entry-read : (k : ℕ) (bytes : List ℕ) (i : ℕ) → i < k → from_le_bytes w32 (get_or (first_chunks 4 k bytes) i []) ≡ read_le32 bytes (4 * i)
+entry-read zero bytes i lt = absurd (omega arith)
+entry-read (suc k) bytes zero lt = four-taken bytes
+  where
+    four-taken : (b : List ℕ) → from_le_bytes w32 (take 4 b) ≡ read_le32 b 0
+    four-taken [] = refl
+    four-taken (x ∷ []) = refl
+    four-taken (x ∷ y ∷ []) = refl
+    four-taken (x ∷ y ∷ z ∷ []) = refl
+    four-taken (x ∷ y ∷ z ∷ w ∷ b) = refl
+entry-read (suc k) bytes (suc i) lt =
+    let e : 4 + 4 * i ≡ 4 * suc i = omega arith in
+    entry-read k (drop 4 bytes) i (omega arith) ∙ rw (read-drop 4 bytes (4 * i), e)
+
 -- the loop that reads them
-pub record Got (bytes numbers₀ numbers : List ℕ) (i : ℕ) : Type 0 where
-  pub upto : i ≤ length numbers₀
-  pub same : length numbers ≡ length numbers₀
-  pub are : take i numbers ≡ numbers_in i bytes
+abbrev pub Got : List ℕ → List ℕ → ℕ → Type 0
+Got bytes numbers i = take i numbers ≡ numbers_in i bytes
 
-pub got-none : (bytes numbers : List ℕ) → Got bytes numbers numbers 0
+pub got-none : (bytes numbers : List ℕ) → Got bytes numbers 0
 unfolding numbers_in
-got-none bytes numbers = record { upto = omega arith; same = refl; are = refl }
+got-none bytes numbers = refl
 
-module _ {bytes numbers₀ numbers : List ℕ} {i : ℕ} (h : Got bytes numbers₀ numbers i) where
-  pub got-more : i < length numbers → (x : ℕ) → x ≡ read_le32 bytes (4 * i) → Got bytes numbers₀ (set numbers i x) (i + 1)
-  got-more lt x is = record {
-    upto = omega (arith, h.same);
-    same = length-set numbers i x ∙ h.same;
-    are = rw (add-one i, take-suc-set numbers i x lt, h.are, numbers-suc i bytes, is);
-  }
-
-  pub got-all : length numbers ≤ i → numbers ≡ numbers_in (length numbers₀) bytes
-  got-all ge =
-      let end : i ≡ length numbers₀ = omega (arith, h.upto, h.same) in
-      let all = take_all i numbers ge in
-      rw (← end, ← h.are, all)
+pub got-more : (bytes numbers : List ℕ) (i : ℕ) → Got bytes numbers i → i < length numbers → i < entries bytes →
+    (arrays : List (List ℕ)) (x : ℕ) → arrays ≡ first_chunks 4 (entries bytes) bytes → x ≡ from_le_bytes w32 (get_or arrays i []) →
+    Got bytes (set numbers i x) (i + 1)
+got-more bytes numbers i h lt within arrays x are is =
+    rw (add-one i, take-suc-set numbers i x lt, h, numbers-suc i bytes, is, are, entry-read (entries bytes) bytes i within)

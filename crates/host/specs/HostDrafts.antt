@@ -1,7 +1,6 @@
 -- What the host's two functions on drafts, `ldfs_rearrange` and `ldfs_restore`, return and leave. Table and list pass as bytes, four an
 -- entry, least significant first.
-use Rattle.std.specs.Prelude.{ℕ, zero, suc, ◌-◌, ◌≤◌, ◌≡◌, List, [], ◌∷◌, ◌++◌, length, drop, replicate}
-use Rattle.model.specs.Limits.{max_states}
+use Rattle.std.specs.Prelude.{ℕ, zero, suc, ◌-◌, ◌≡◌, List, [], ◌∷◌, ◌++◌, length, drop, replicate}
 use Rattle.model.specs.Problem.{Problem, states}
 use Rattle.model.specs.Read.{problem_of}
 use Rattle.model.specs.Report.{on_refusal}
@@ -67,12 +66,3 @@ HostedRearrange s t o l k t' o' l' =
 abbrev pub HostedRestore : List ℕ → List ℕ → List ℕ → List ℕ → ℕ → List ℕ → List ℕ → Type 0
 HostedRestore s t l o k t' o' =
     (k ≡ host_restore s t l o) × ((t' ≡ host_restore_table s t l o) × (o' ≡ host_restore_output s t l o))
-
--- What private functions suppose: an index table and a list of the call's own, long enough, for the host's table t and list l; and room for
--- the sheet s in the output o.
-pub record Lent (index numbers s t o l : List ℕ) : Type 0 where
-  pub index_room : max_states ≤ length index
-  pub index_fits : length index ≤ entries t
-  pub list_room : max_states ≤ length numbers
-  pub list_fits : length numbers ≤ entries l
-  pub output_room : length s ≤ length o

@@ -15,12 +15,11 @@ filled_up t n = t ++ replicate (n - length t) 0
 abbrev pub few_states : ℕ
 few_states = 256
 
--- the table index holds zeros and serves the sheet s: with its number of entries for the limit of states, question 3 has the answer that it
--- has under `max_states`. The host's table t is long enough.
-pub record Serves (index s t : List ℕ) : Type 0 where
-  pub zeros : index ≡ replicate (length index) 0
-  pub most : length index ≤ max_states
-  pub head : question3 head_tag (length index) s ≡ question3 head_tag max_states s
+-- an index table of n zeros serves the sheet s: with its number of entries for the limit of states, question 3 has the answer that it has
+-- under `max_states`. The host's table t is long enough.
+pub record Serves (n : ℕ) (s t : List ℕ) : Type 0 where
+  pub most : n ≤ max_states
+  pub head : question3 head_tag n s ≡ question3 head_tag max_states s
   pub room : max_states ≤ entries t
 
 -- a call on the sheet s with the host's table t, which is long enough, and a budget: it answered a, and left s' and t'

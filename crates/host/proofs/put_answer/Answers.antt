@@ -3,5 +3,4 @@ use Rattle.host.proofs.Bytes.{three-put}
 use Rattle.host.proofs.put_answer.Goals as goal
 
 pub returns : goal.returns
-returns c =
-    three-put c.args.res.now _ _ _ _ _ _ c.requires c.put64.ensures c.put64-2.ensures c.put64-3.ensures
+returns c = three-put c.args.res.now _ _ _ _ _ _ (cc) (cc) (cc)

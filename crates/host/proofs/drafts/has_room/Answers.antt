@@ -1,23 +1,13 @@
--- The three tests, one after the other.
 use native.Mathlib.Omega.{arith}
-use Rattle.host.proofs.HostedDrafts.{table-too-short, output-too-short, list-too-short, all-long}
+use Rattle.std.proofs.lemmas.Bool.Decides.{nat_tests}
+use Rattle.model.specs.Tests.{all}
+use Rattle.order.specs.Asking.{question1_lent}
 use Rattle.host.proofs.drafts.has_room.Goals as goal
 
-pub returns-then-table-lt-TABLE_BYTES : goal.returns-then-table-lt-TABLE_BYTES
-returns-then-table-lt-TABLE_BYTES c =
-    table-too-short c.args.sheet.now c.args.table.now c.args.output.now c.args.list.now (omega (arith, c.if-table-lt-TABLE_BYTES.true))
-
 pub returns-then-output-sheet : goal.returns-then-output-sheet
-returns-then-output-sheet c =
-    output-too-short c.args.sheet.now c.args.table.now c.args.output.now c.args.list.now (omega (arith, c.if-table-lt-TABLE_BYTES.false))
-    (omega (arith, c.if-output-sheet.true))
+unfolding question1_lent all
+returns-then-output-sheet c = grind (arith, nat_tests)
 
-pub returns-then-list-lt-LIST_BYTES : goal.returns-then-list-lt-LIST_BYTES
-returns-then-list-lt-LIST_BYTES c =
-    list-too-short c.args.sheet.now c.args.table.now c.args.output.now c.args.list.now (omega (arith, c.if-table-lt-TABLE_BYTES.false))
-    (omega (arith, c.if-output-sheet.false)) (omega (arith, c.if-list-lt-LIST_BYTES.true))
-
-pub returns : goal.returns
-returns c =
-    all-long c.args.sheet.now c.args.table.now c.args.output.now c.args.list.now (omega (arith, c.if-table-lt-TABLE_BYTES.false))
-    (omega (arith, c.if-output-sheet.false)) (omega (arith, c.if-list-lt-LIST_BYTES.false))
+pub returns-else-output-sheet : goal.returns-else-output-sheet
+unfolding question1_lent all
+returns-else-output-sheet c = grind (arith, nat_tests)

@@ -1,16 +1,29 @@
 -- The work where there is room, and else the refusal.
 use mathlib.Core.Path.{sym, ◌∙◌}
-use Rattle.host.proofs.HostedDrafts.{restore-no-room}
+use native.Mathlib.Omega.{arith}
+use Rattle.host.proofs.HostedDrafts.{lent-own, restore-no-room, restored-refused, restored-done}
 use Rattle.host.proofs.drafts.ldfs_restore.Goals as goal
 
-pub restore_bytes-requires : goal.restore_bytes-requires
-restore_bytes-requires c =
-    sym c.has_room.ensures ∙ c.if-has_room.true
+pub returns-then-not-has_room : goal.returns-then-not-has_room
+returns-then-not-has_room c = let every = restore-no-room _ _ _ _ (sym c.has_room.ensures ∙ c.if-not-has_room.true) in
+    record { number = c.number.ensures ∙ every.0; table = every.1.0; output = every.1.1 }
 
-pub returns-then-has_room : goal.returns-then-has_room
-returns-then-has_room c = let every = c.restore_bytes.ensures in
+pub get_list-requires : goal.get_list-requires
+get_list-requires c = let own = lent-own c.has_room.ensures c.if-not-has_room.false in own.list_fits
+
+pub put_table-requires : goal.put_table-requires
+put_table-requires c = let own = lent-own c.has_room.ensures c.if-not-has_room.false in omega (arith, own.index_fits)
+
+pub returns-in-Ok : goal.returns-in-Ok
+returns-in-Ok c =
+    let own = lent-own c.has_room.ensures c.if-not-has_room.false in
+    let made = c.restore-v.ensures in
+    let every = restored-done own c.get_list.ensures made.table c.put_table.ensures made.output (sym c.in-Ok.is ∙ made.answer) in
     record { number = every.0; table = every.1.0; output = every.1.1 }
 
-pub returns : goal.returns
-returns c = let every = restore-no-room _ _ _ _ (sym c.has_room.ensures ∙ c.if-has_room.false) in
-    record { number = every.0; table = every.1.0; output = every.1.1 }
+pub returns-in-Err : goal.returns-in-Err
+returns-in-Err c =
+    let own = lent-own c.has_room.ensures c.if-not-has_room.false in
+    let made = c.restore-v.ensures in
+    let every = restored-refused own c.get_list.ensures made.table c.put_table.ensures made.output (sym c.in-Err.is ∙ made.answer) in
+    record { number = c.number-in-Err.ensures ∙ every.0; table = every.1.0; output = every.1.1 }
