@@ -2,17 +2,20 @@
 use Prim.Native.Nat.{ℕ, zero, suc, ◌+◌, ◌/◌, ◌^◌, ◌<◌, ◌≤◌}
 use mathlib.Core.Path.{◌≡◌, refl, ap, sym, ◌∙◌}
 use mathlib.Core.Bool.{Bool, true, false}
+use mathlib.Core.Logic.{⊎_elim}
 use mathlib.Core.List.{List, [], ◌∷◌}
 use native.Mathlib.Omega.{arith}
-use native.Mathlib.Nat.{one-le-pow, pow-le-pow_right}
+use native.Mathlib.Nat.{eq-or-lt_of_le, one-le-pow, pow-le-pow_right}
 use native.Mathlib.Numerals.{add-one}
 use borrow.Author.Tests.{eqb-true, ne_eqb, le-leb, lt-leb, leb-true, leb-false}
 use lib.Dec.{eqb, leb}
 use lib.ListN.{length, get_or}
+use Rattle.std.proofs.lemmas.List.Sums.{prefix_len-le-length, prefix_len_passes, prefix_len_stops}
 use Rattle.model.specs.Tests.{also, every}
 use Rattle.model.proofs.TestLaws.{every_true}
 use Rattle.listing.specs.Text.{decimal}
 use Rattle.listing.specs.Width.{power_rule, PowersThatFit, powers_from, powers, at_most, width_of}
+use Rattle.listing.specs.Put.{up_to}
 use Rattle.listing.proofs.Decimal.{decimal-one, more-length}
 
 -- powers rise with their exponents
@@ -107,6 +110,31 @@ width_is (suc x) n h s = width_some x ∙ at-most-is (suc x) n powers (omega (ar
     high i le lt =
         let rise = powers-rise n i le in
         rw (powers-fit.entry i (omega (arith, powers-fit.twenty))) (omega (arith, s.high, rise))
+
+-- so the width is one more than the count of entries behind the first that are at most x
+module _ (x n : ℕ) (rest : List ℕ) (is : n ≡ up_to x rest) where
+  pub count-few : n ≤ length rest
+  unfolding up_to
+  count-few = rw is (prefix_len-le-length (λ p. leb p x) rest)
+
+  pub width-counts : x < 2 ^ 64 → PowersThatFit (1 ∷ rest) → n + 1 ≡ width_of x
+  unfolding up_to
+  width-counts h fit =
+      add-one n ∙ sym (width_is x (suc n) (omega (arith, count-few, fit.twenty)) (record { some = omega arith; low = low; high = high }))
+    where
+      low : (i : ℕ) → 1 ≤ i → i < suc n → 10 ^ i ≤ x
+      low zero one lt = absurd (omega arith)
+      low (suc i) one lt =
+          let passes = leb-true _ _ (prefix_len_passes (λ p. leb p x) rest i 0 (omega (arith, is))) in
+          rw (fit.entry (suc i) (omega (arith, count-few, fit.twenty))) at passes
+
+      stops : n < 19 → x < 10 ^ suc n
+      stops lt =
+          let stop = leb-false _ _ (prefix_len_stops (λ p. leb p x) rest 0 (omega (arith, is, fit.twenty))) in
+          rw (← is, fit.entry (suc n) (omega arith)) at stop
+
+      high : x < 10 ^ suc n
+      high = ⊎_elim (λ e. rw e (omega arith)) stops (eq-or-lt_of_le (omega (arith, count-few, fit.twenty)))
 
 digits_are : (n x : ℕ) → Spans x n → length (decimal x) ≡ n
 digits_are zero x s = absurd (omega (arith, s.some))

@@ -1,5 +1,6 @@
 -- S10: what `price` prints.
 use Rattle.std.specs.Prelude.{ℕ, zero, suc, ◌+◌, ◌*◌, ◌<◌, ◌≡◌, Bool, true, false, ◌||◌, List, [], ◌∷◌, ◌++◌, eqb, leb, length, drop}
+use Rattle.std.specs.Prelude.{Option, Some, None as Nothing}
 use Rattle.model.specs.declared.Outcome.{Outcome}
 use Rattle.model.specs.declared.Outcome.TheVariants.{Refused, Settled, Over, Stopped, None}
 use Rattle.model.specs.declared.Answer.{Answer}
@@ -10,8 +11,7 @@ use Rattle.model.specs.Limits.{max_states}
 use Rattle.model.specs.QValue.{dearest}
 use Rattle.model.specs.Questions.{ascending}
 use Rattle.model.specs.Report.{largest, answer_to, bytes_after, table_after}
-use Rattle.listing.specs.declared.Listed.{Listed}
-use Rattle.listing.specs.declared.Listed.TheVariants.{TooShort, Written}
+use Rattle.listing.specs.declared.Listing.{Listing}
 use Rattle.listing.specs.Text.{ascii, decimal}
 
 -- a word, and a number behind it
@@ -127,9 +127,10 @@ abbrev pub enough : ℕ
 enough = max_line_one + max_state_line * max_states
 
 -- what `list` answers
-unfoldable pub listed_as : List ℕ → List ℕ → List ℕ → Listed
+unfoldable pub listed_as : List ℕ → List ℕ → List ℕ → Option Listing
 listed_as s t out =
-    fork (leb enough (length out)) (λ _. Written (length (listing s (length t))) (answer_to s (length t) largest).outcome) (λ _. TooShort)
+    fork (leb enough (length out))
+    (λ _. Some (record { length = length (listing s (length t)); outcome = (answer_to s (length t) largest).outcome })) (λ _. Nothing)
 
 -- the sheet, the table and the buffer after it
 unfoldable pub sheet_listed : List ℕ → List ℕ → List ℕ → List ℕ

@@ -1,9 +1,9 @@
 -- What the contracts of the private functions say.
-use Rattle.std.specs.Prelude.{ℕ, ◌<◌, ◌≡◌, Bool, true, List, [], ◌∷◌, length, set}
+use Rattle.std.specs.Prelude.{ℕ, ◌<◌, ◌≡◌, Bool, true, List, [], ◌∷◌, leb, length, set}
+use Rattle.std.specs.List.{prefix_len}
 use Rattle.model.specs.Problem.{Action, Form, decision, Problem, Cell, node_at, cell_of}
 use Rattle.model.specs.Read.{problem_of, cells_of}
 use Rattle.model.specs.Policy.{Closed, written}
-use Rattle.sheet.specs.Sheet.{Sheet}
 use Rattle.theory.specs.Consistent.{WellFormed}
 
 -- the most digits of a number of 64 bits; what follows is the most bytes of parts of a line, with so many digits for every number
@@ -26,10 +26,9 @@ max_choice = 27
 abbrev pub max_line_end : ℕ
 max_line_end = 25
 
--- what listing a sheet supposes: it is in place and its problem well formed, as work leaves them, and the start's plan is complete, as it
--- is when settled
-pub record Listable (s t : List ℕ) : Type 0 where
-  pub sheet : Sheet s t (problem_of s) (cells_of s)
+-- what listing the sheet whose bytes are s supposes: its problem is well formed, and the start's plan is complete, as work leaves them when
+-- settled
+pub record Listable (s : List ℕ) : Type 0 where
   pub formed : WellFormed (problem_of s)
   pub complete : Closed (problem_of s) (written (cells_of s)) (problem_of s).start
 
@@ -41,3 +40,7 @@ Chooses p cells i = (form : Form) (acts : List Action) → node_at p i ≡ decis
 unfoldable pub flagged : List Bool → List ℕ → List Bool
 flagged flags [] = flags
 flagged flags (t ∷ ts) = flagged (set flags t true) ts
+
+-- how many entries of a table, from its first on, are at most x
+unfoldable pub up_to : ℕ → List ℕ → ℕ
+up_to x table = prefix_len (λ entry. leb entry x) table

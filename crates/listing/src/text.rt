@@ -1,33 +1,31 @@
-// Text written into a buffer, one piece behind the other. Each function answers the place behind what it wrote.
-ghost use Rattle.std.specs.Prelude.{◌≡◌, [], ◌∷◌, ◌+◌, ◌<◌, ◌≤◌, length};
+// Words and numbers written onto a page, one behind the other.
+ghost use Rattle.std.specs.Prelude.{◌≡◌, ◌+◌, ◌<◌, ◌≤◌, length};
 ghost use Rattle.listing.specs.Text.{last_digit, decimal};
 ghost use Rattle.listing.specs.Listing.{field};
-ghost use Rattle.layout.specs.Placed.{Wrote};
+ghost use Rattle.sheet.specs.Put.{HasRoom, Appended};
 ghost use Rattle.listing.specs.Put.{max_digits};
 
 use super::width::width;
+use sheet::put::Page;
 
-// One byte.
-fn put_byte(out: &mut [u8], at: usize, b: u8) -> usize
-    requires { at < length out.old }
-    ensures { Wrote out.old out.new at result (b ∷ []) }
+// A number in decimal (S10.4).
+fn put_number(page: &mut Page, x: u64)
+    requires { HasRoom page.old (length (decimal x)) }
+    ensures { Appended page.old page.new (decimal x) }
 {
-    out[at] = b;
-    at + 1
+    let end = page.end + width(x);
+    put_digits(&mut page.out[page.end..end], x);
+    page.end = end;
 }
 
-// The bytes of a word.
-pub(crate) fn put_word(out: &mut [u8], at: usize, word: &[u8]) -> usize
-    requires { at + length word.now ≤ length out.old }
-    ensures { Wrote out.old out.new at result word.now }
+// A word, and a number behind it.
+pub(crate) fn put_field(page: &mut Page, word: &[u8], x: u64)
+    requires { HasRoom page.old (length word.now + max_digits) }
+    ensures appended { Appended page.old page.new (field word.now x) }
+    ensures upper_bound { page.new.end ≤ page.old.end + length word.now + max_digits }
 {
-    let mut next: usize = at;
-    let mut i: usize = 0;
-    while i < word.len() {
-        next = put_byte(out, next, word[i]);
-        i += 1;
-    }
-    next
+    page.bytes(word);
+    put_number(page, x);
 }
 
 // The last digit of a number.
@@ -37,28 +35,15 @@ fn last_digit(x: u64) -> u8
     (48 + x % 10) as u8
 }
 
-// A number in decimal (S10.4): its width is found first, and its digits go into their places from the last to the first.
-pub(crate) fn put_number(out: &mut [u8], at: usize, x: u64) -> usize
-    requires { at + length (decimal x) ≤ length out.old }
-    ensures { Wrote out.old out.new at result (decimal x) }
+// The digits of a number, which fill the slice: they go into their places from the last to the first. By index: of what is written through
+// a reversed `iter_mut` no contract speaks.
+pub(crate) fn put_digits(out: &mut [u8], x: u64)
+    requires { length out.old ≡ length (decimal x) }
+    ensures { out.new ≡ decimal x }
 {
-    let end = at + width(x);
-    let mut i = end;
     let mut rest = x;
-    while at < i {
-        i -= 1;
+    for i in (0..out.len()).rev() {
         out[i] = last_digit(rest);
         rest /= 10;
     }
-    end
-}
-
-// A word, and a number behind it.
-pub(crate) fn put_field(out: &mut [u8], at: usize, word: &[u8], x: u64) -> usize
-    requires { at + length word.now + max_digits ≤ length out.old }
-    ensures wrote { Wrote out.old out.new at result (field word.now x) }
-    ensures upper_bound { result ≤ at + length word.now + max_digits }
-{
-    let next = put_word(out, at, word);
-    put_number(out, next, x)
 }

@@ -1,6 +1,7 @@
 // How many digits a number has, from a table of the powers of ten (S10.10).
 ghost use Rattle.std.specs.Prelude.{◌≡◌};
 ghost use Rattle.listing.specs.Width.{width_of};
+ghost use Rattle.listing.specs.Put.{up_to};
 
 // The powers of ten that fit 64 bits.
 const POWERS: [u64; 20] = [
@@ -26,18 +27,18 @@ const POWERS: [u64; 20] = [
     10000000000000000000,
 ];
 
-// A number's width (S10.10): how many entries are at most the number, and 1 for 0. Entries ascend, so the first above the number ends the
-// count. It begins at 1: entry 0 is at most every number but 0, and that has the width 1 too.
+// How many entries of a table, from its first on, are at most a number.
+#[tactic(auto, unfolding(crate::specs::Put::up_to))]
+fn entries(table: &[u64], x: u64) -> usize
+    ensures { result ≡ up_to x table.now }
+{
+    table.iter().take_while(|&&entry| entry <= x).count()
+}
+
+// A number's width (S10.10): one more than how many of the entries behind the first are at most the number. Entries ascend, so the first
+// above the number ends the count.
 pub(crate) fn width(x: u64) -> usize
     ensures { result ≡ width_of x }
 {
-    let powers = POWERS;
-    let mut n: usize = 1;
-    while n < powers.len() {
-        if x < powers[n] {
-            return n;
-        }
-        n += 1;
-    }
-    n
+    entries(&POWERS[1..], x) + 1
 }

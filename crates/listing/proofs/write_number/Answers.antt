@@ -1,21 +1,14 @@
 use native.Mathlib.Omega.{arith}
+use borrow.Author.Rules.{rules}
 use Rattle.listing.proofs.Widths.{width-digits}
 use Rattle.listing.proofs.Writing.{number_fits, number-long}
 use Rattle.listing.proofs.write_number.Goals as goal
 
-pub put_number-requires : goal.put_number-requires
-put_number-requires c =
-    omega (arith, c.width-n.ensures, width-digits _ c.ranges.x.fits, c.if-n-out.true)
+pub put_digits-requires : goal.put_digits-requires
+put_digits-requires c = search (rules, width-digits _ c.ranges.x.fits, c.width-n.ensures)
 
-pub returns-then-n-out : goal.returns-then-n-out
-returns-then-n-out c =
-    let fits = c.ranges.x.fits in record {
-      width = c.width-n.ensures;
-      text = number_fits _ _ _ c.width-n.ensures (omega (arith, c.if-n-out.true)) fits c.put_number.ensures;
-    }
+pub returns-then-n-out-clause-text : goal.returns-then-n-out-clause-text
+returns-then-n-out-clause-text c = number_fits _ _ _ c.width-n.ensures (omega (arith, c.if-n-out.true)) c.put_digits.ensures
 
-pub returns-else-n-out : goal.returns-else-n-out
-returns-else-n-out c = record {
-  width = c.width-n.ensures;
-  text = number-long _ _ _ c.width-n.ensures (omega (arith, c.if-n-out.false));
-}
+pub returns-else-n-out-clause-text : goal.returns-else-n-out-clause-text
+returns-else-n-out-clause-text c = number-long _ _ _ c.width-n.ensures (omega (arith, c.if-n-out.false))
