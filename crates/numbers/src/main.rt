@@ -6,11 +6,6 @@
 
 use listing::write_number;
 
-// The largest number, and the largest of which ten times it fits.
-const LARGEST: u64 = 18446744073709551615;
-
-const LAST_TENTH: u64 = 1844674407370955161;
-
 // A number's line, with a buffer to write it into. Where a write fails, its part of the line is missing.
 fn line(rt: &impl Print, x: u64, out: &mut [u8]) {
     let n = write_number(out, x);
@@ -31,7 +26,7 @@ fn around(rt: &impl Print, x: u64) {
         show(rt, x - 1);
     }
     show(rt, x);
-    if x < LARGEST {
+    if x < u64::MAX {
         show(rt, x + 1);
     }
 }
@@ -40,11 +35,11 @@ fn around(rt: &impl Print, x: u64) {
 fn main(rt: HostRuntime) {
     let mut power: u64 = 1;
     around(&rt, power);
-    while power <= LAST_TENTH {
-        power *= 10;
+    while let Some(next) = power.checked_mul(10) {
+        power = next;
         around(&rt, power);
     }
-    show(&rt, LARGEST);
+    show(&rt, u64::MAX);
     let mut short = [46u8; 19];
-    line(&rt, LARGEST, &mut short);
+    line(&rt, u64::MAX, &mut short);
 }

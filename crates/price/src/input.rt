@@ -1,43 +1,21 @@
 // Reading a sheet.
 ghost use Rattle.std.specs.Counts.{IsPrefixLen};
+ghost use Rattle.std.specs.Prelude.{IfOk};
 
-use crate::output::fail;
+use std::io;
 use std::io::Read;
 
-// What became of the input: the number of bytes that were read, and whether a read failed.
-#[derive(Clone, Copy)]
-pub(crate) struct Input {
-    pub(crate) count: usize,
-    pub(crate) failed: bool,
-}
-
-// Reads until the buffer is full, the input ends, or a read fails, which it says on standard error by the input's name (S10.6).
-pub(crate) fn read(errors: &impl Print, from: &mut impl Read, name: &[u8], buf: &mut [u8]) -> Input
-    ensures { IsPrefixLen result.count buf.new }
+// Reads until the buffer is full, the input ends, or a read fails, and answers how many bytes were read, or why a read failed. The standard
+// library has nothing that fills a buffer without a heap and says how far.
+pub(crate) fn read(from: &mut impl Read, buf: &mut [u8]) -> io::Result<usize>
+    ensures { IfOk result (λ n. IsPrefixLen n buf.new) }
 {
-    let mut count: usize = 0;
+    let mut count = 0;
     while count < buf.len() {
-        match from.read(&mut buf[count..]) {
-            Ok(0) => {
-                return Input {
-                    count,
-                    failed: false,
-                };
-            }
-            Ok(more) => {
-                count += more;
-            }
-            Err(e) => {
-                fail(errors, name, &e);
-                return Input {
-                    count,
-                    failed: true,
-                };
-            }
+        match from.read(&mut buf[count..])? {
+            0 => break,
+            more => count += more,
         }
     }
-    Input {
-        count,
-        failed: false,
-    }
+    Ok(count)
 }

@@ -5,11 +5,11 @@ mod input; // input.rt: reading a sheet
 mod output; // output.rt: the listing, and what is said on standard error
 mod words; // words.rt: how the program is used, its version, and why a sheet is refused
 
-ghost use Rattle.std.specs.Prelude.{◌≡◌, true};
+ghost use Rattle.std.specs.Prelude.{◌≡◌, ◌↔◌, IsTrue};
 ghost use Rattle.listing.specs.Text.{ascii};
 
 use input::read;
-use listing::{ENOUGH, Listed, list};
+use listing::{ENOUGH, list};
 use model::{MAX_BYTES, MAX_STATES};
 use output::{explain, fail, fail_unless, write};
 use sheet::numbers::byte_at;
@@ -32,34 +32,26 @@ fn price(output: &impl Print, errors: &impl Print, sheet: &mut [u8]) {
     let tag = byte_at(sheet, 0);
     let mut table = [0u32; MAX_STATES];
     let mut out = [0u8; ENOUGH];
-    let listed = list(sheet, &mut table, &mut out);
-    match listed {
-        Listed::Written(n, o) => {
-            write(output, errors, &out[..n]);
-            explain(errors, o, tag);
-        }
-        Listed::TooShort => {}
+    if let Some(listing) = list(sheet, &mut table, &mut out) {
+        write(output, errors, &out[..listing.length]);
+        explain(errors, listing.outcome, tag);
     }
 }
 
 // Prices what an open file holds (S10.1). One byte more is read than a sheet may have, so that a longer one is refused (S10.7). Where a
-// read fails, nothing is priced (S10.6).
+// read fails, nothing is priced, and standard error says why, by the input's name (S10.6).
 fn price_open(output: &impl Print, errors: &impl Print, from: &mut impl Read, name: &[u8]) {
     let mut sheet = [0u8; MAX_BYTES + 1];
-    let input = read(errors, from, name, &mut sheet);
-    let n = input.count;
-    let failed = input.failed;
-    if !failed {
-        price(output, errors, &mut sheet[..n]);
+    match read(from, &mut sheet) {
+        Ok(n) => price(output, errors, &mut sheet[..n]),
+        Err(error) => fail(errors, name, &error),
     }
 }
 
 // Opens the file of a name. The standard library opens only names that are text in UTF-8.
 fn open<R: Files>(rt: &R, name: &[u8]) -> io::Result<R::File> {
-    match str::from_utf8(name) {
-        Ok(path) => fs::open(rt, path),
-        Err(_) => Err(io::Error::from_raw_os_error(NOT_TEXT)),
-    }
+    let path = str::from_utf8(name).map_err(|_| io::Error::from_raw_os_error(NOT_TEXT))?;
+    fs::open(rt, path)
 }
 
 // Prices the file of a name, or says why it cannot be opened (S10.1, S10.6).
@@ -72,14 +64,14 @@ fn price_file(rt: &impl Files, output: &impl Print, errors: &impl Print, name: &
 
 // Is this the argument that asks how the program is used (S10.8)?
 fn asks_usage(arg: &[u8]) -> bool
-    ensures { (result ≡ true → arg.now ≡ ascii "--help") × (arg.now ≡ ascii "--help" → result ≡ true) }
+    ensures { IsTrue result ↔ arg.now ≡ ascii "--help" }
 {
     arg == b"--help".as_slice()
 }
 
 // Is this the argument that asks for the version (S10.11)?
 fn asks_version(arg: &[u8]) -> bool
-    ensures { (result ≡ true → arg.now ≡ ascii "--version") × (arg.now ≡ ascii "--version" → result ≡ true) }
+    ensures { IsTrue result ↔ arg.now ≡ ascii "--version" }
 {
     arg == b"--version".as_slice()
 }

@@ -1,78 +1,75 @@
-// Bytes in a buffer.
+// A sheet in a buffer.
 use super::MOST;
 use super::words::slip;
 
-// Writes a byte at `at`, and answers the place after it. It is a slip where the buffer ends before.
-pub(crate) fn put(rt: &impl Print, sheet: &mut [u8; MOST], at: usize, b: u8) -> usize {
-    if at < MOST {
-        sheet[at] = b;
-        at + 1
-    } else {
-        slip(rt);
-        at
-    }
+// A sheet: the first `len` bytes of a buffer. Behind them stands what was written there before. Where `len` is past the buffer's end, no
+// call can be made on it.
+#[derive(Clone, Copy)]
+pub(crate) struct Sheet {
+    pub(crate) buffer: [u8; MOST],
+    pub(crate) len: usize,
 }
 
-// Writes the first `n` bytes of a block at `at`, and answers the place after them.
-pub(crate) fn paste(
-    rt: &impl Print,
-    sheet: &mut [u8; MOST],
-    at: usize,
-    block: &[u8],
-    n: usize,
-) -> usize {
-    let mut next = at;
-    let mut i = 0;
-    while i < n {
-        if block.len() <= i {
-            return next;
+impl Sheet {
+    // A sheet without bytes.
+    pub(crate) fn new() -> Sheet {
+        Sheet {
+            buffer: [0; MOST],
+            len: 0,
         }
-        next = put(rt, sheet, next, block[i]);
-        i += 1;
     }
-    next
-}
 
-// Writes the last `size` of the first `n` bytes again, until they stand there `times` times in all, and answers the place after them. It
-// is a slip where there are fewer bytes than that, or where they reach the buffer's end.
-pub(crate) fn repeat(
-    rt: &impl Print,
-    sheet: &mut [u8; MOST],
-    n: usize,
-    size: usize,
-    times: usize,
-) -> usize {
-    let mut i = n;
-    if size == 0 {
-        slip(rt);
-        return n;
+    // Takes all bytes away.
+    pub(crate) fn clear(&mut self) {
+        self.len = 0;
     }
-    if n < size {
-        slip(rt);
-        return n;
-    }
-    while i < MOST {
-        if times <= (i - (n - size)) / size {
-            return i;
-        }
-        sheet[i] = sheet[i - size];
-        i += 1;
-    }
-    slip(rt);
-    i
-}
 
-// Whether a buffer differs from what it was, as far as both go.
-pub(crate) fn differ(after: &[u8], before: &[u8; MOST]) -> bool {
-    let mut i = 0;
-    while i < after.len() {
-        if MOST <= i {
-            return false;
+    // Writes a byte behind the others. It is a slip where the buffer ends before.
+    fn push(&mut self, rt: &impl Print, b: u8) {
+        if self.len < MOST {
+            self.buffer[self.len] = b;
+            self.len += 1;
+        } else {
+            slip(rt);
         }
-        if after[i] != before[i] {
-            return true;
-        }
-        i += 1;
     }
-    false
+
+    // Writes bytes behind the others.
+    pub(crate) fn extend(&mut self, rt: &impl Print, bytes: &[u8]) {
+        for &b in bytes {
+            self.push(rt, b);
+        }
+    }
+
+    // Writes bytes from `at` on. Where they go past the sheet's end, it is longer. It is a slip where `at` is past the end.
+    pub(crate) fn overwrite(&mut self, rt: &impl Print, at: usize, bytes: &[u8]) {
+        let len = self.len;
+        if len < at {
+            slip(rt);
+        }
+        self.len = at;
+        self.extend(rt, bytes);
+        self.len = self.len.max(len);
+    }
+
+    // Writes the last `size` bytes again, until they stand there `times` times in all. It is a slip where there are fewer bytes than that,
+    // or where they reach the buffer's end.
+    pub(crate) fn repeat(&mut self, rt: &impl Print, size: usize, times: usize) {
+        let len = self.len;
+        if size == 0 || len < size {
+            slip(rt);
+            return;
+        }
+        let end = times
+            .saturating_mul(size)
+            .saturating_add(len - size)
+            .max(len);
+        for i in len..end.min(MOST) {
+            self.buffer[i] = self.buffer[i - size];
+        }
+        if MOST <= end {
+            slip(rt);
+        }
+        self.len = end.min(MOST);
+    }
 }

@@ -1,104 +1,68 @@
 // A case: a call of `check` or of `solve` under its options, and its line.
 use super::answers::{asked, worked};
-use super::table::{show, spoil, tally};
-use super::words::{number, word};
+use super::bytes::Sheet;
+use super::table::{garbage, show, tally};
+use super::text::Call;
+use super::words::{number, slip, word};
 use super::{LONGEST, MOST};
 use model::MAX_STATES;
+use std::ops::Range;
 
-// The largest budget.
-const LARGEST: u64 = 18446744073709551615;
-
-// What the next case is run with: its budget, the most bytes of the sheet, the table's entries (0 where its line does not speak of the
-// table), and which entries are printed.
-#[derive(Clone, Copy)]
+// What the next case is run with: its budget, the most bytes of the sheet, the table's entries, unless its line does not speak of the
+// table, and which of the entries are printed.
+#[derive(Drop)]
 pub(crate) struct Options {
     pub(crate) budget: u64,
     pub(crate) bytes: usize,
-    pub(crate) entries: usize,
-    pub(crate) from: usize,
-    pub(crate) end: usize,
+    pub(crate) entries: Option<usize>,
+    pub(crate) shown: Range<usize>,
 }
 
 // The options of a case that has none.
-pub(crate) fn plain() -> Options {
-    Options {
-        budget: LARGEST,
-        bytes: MOST,
-        entries: 0,
-        from: 0,
-        end: 0,
-    }
-}
-
-// The options after the line of one, whose numbers are these.
-pub(crate) fn option(options: Options, command: u8, first: u64, last: u64) -> Options {
-    let mut o = options;
-    match command {
-        b'$' => {
-            o.budget = last;
-            o
-        }
-        b'^' => {
-            o.bytes = last as usize;
-            o
-        }
-        b'%' => {
-            o.entries = last as usize;
-            o
-        }
-        _ => {
-            o.from = first as usize;
-            o.end = last as usize;
-            o
+impl Default for Options {
+    fn default() -> Options {
+        Options {
+            budget: u64::MAX,
+            bytes: MOST,
+            entries: None,
+            shown: 0..0,
         }
     }
 }
 
-// The end of a label that speaks of the table.
-fn heading(rt: &impl Print, entries: usize) {
-    if 0 < entries {
-        word(rt, b"-table");
-        number(rt, entries as u64);
-    }
-}
-
-// The call: `solve` at `!` and `+`, and `check` at `?` and `.`.
-fn call(
+// The call, on as many bytes and with as many entries as the options say. It is a slip where there are fewer.
+fn run_call(
     rt: &impl Print,
-    command: u8,
-    sheet: &mut [u8; MOST],
-    n: usize,
+    call: Call,
+    sheet: &mut Sheet,
     table: &mut [u32; LONGEST],
-    size: usize,
-    budget: u64,
+    options: &Options,
 ) {
-    match command {
-        b'!' | b'+' => {
-            let before = *sheet;
-            worked(rt, sheet, n, table, size, budget, &before)
-        }
-        _ => asked(rt, sheet, n, table, size),
+    let before = sheet.buffer;
+    let n = sheet.len.min(options.bytes);
+    let size = options.entries.unwrap_or(MAX_STATES);
+    let (Some(bytes), Some(entries)) = (sheet.buffer.get_mut(..n), table.get_mut(..size)) else {
+        slip(rt);
+        return;
+    };
+    match call {
+        Call::Check => asked(rt, bytes, entries),
+        Call::Solve => worked(rt, bytes, entries, options.budget, &before),
     }
 }
 
-// The end of a line that speaks of the table.
-fn ending(rt: &impl Print, entries: usize, table: &[u32; LONGEST]) {
-    if 0 < entries {
-        tally(rt, table, entries);
+// A case on a sheet, or on fewer of its bytes: its line behind its label.
+pub(crate) fn case(rt: &impl Print, call: Call, sheet: &mut Sheet, options: Options) {
+    let mut table = garbage();
+    let entries = options.entries;
+    if let Some(size) = entries {
+        word(rt, b"-table");
+        number(rt, size as u64);
+    }
+    run_call(rt, call, sheet, &mut table, &options);
+    show(rt, &table, options.shown);
+    if let Some(size) = entries {
+        tally(rt, &table, size);
     }
     word(rt, b"\n");
-}
-
-// A case on the first `n` bytes of a sheet, or on fewer: its line behind its label.
-pub(crate) fn case(rt: &impl Print, command: u8, sheet: &mut [u8; MOST], n: usize, o: Options) {
-    let mut table = [0u32; LONGEST];
-    let most = o.bytes;
-    let entries = o.entries;
-    let n = if most < n { most } else { n };
-    let size = if entries == 0 { MAX_STATES } else { entries };
-    spoil(&mut table);
-    heading(rt, entries);
-    call(rt, command, sheet, n, &mut table, size, o.budget);
-    show(rt, &table, o.from, o.end);
-    ending(rt, entries, &table);
 }

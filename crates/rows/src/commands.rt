@@ -1,101 +1,53 @@
 // What a line of the text asks for.
-use super::MOST;
-use super::bytes::{paste, repeat};
-use super::cases::{Options, case, option, plain};
+use super::bytes::Sheet;
+use super::cases::{Options, case};
 use super::chain::chain;
-use super::text::{Line, ROOM};
-use super::words::slip;
+use super::text::{Command, Line, On};
+use std::mem;
 
-// What lines before have left: the number of bytes of the base and of the last case's sheet, and the options of the next case.
-#[derive(Clone, Copy)]
+// What lines before have left: the base, the last case's sheet, and the options of the next case.
+#[derive(Drop)]
 pub(crate) struct State {
-    base: usize,
-    sheet: usize,
+    base: Sheet,
+    sheet: Sheet,
     options: Options,
 }
 
-// The state before the first line.
-pub(crate) fn start() -> State {
-    State {
-        base: 0,
-        sheet: 0,
-        options: plain(),
+impl State {
+    // The state before the first line.
+    pub(crate) fn new() -> State {
+        State {
+            base: Sheet::new(),
+            sheet: Sheet::new(),
+            options: Options::default(),
+        }
     }
-}
 
-// A line that lays the base or goes on with it.
-fn build(rt: &impl Print, s: State, l: Line, hex: &[u8; ROOM], base: &mut [u8; MOST]) -> State {
-    let mut t = s;
-    let c = l.command;
-    let n = s.base;
-    match c {
-        b'=' => {
-            t.base = paste(rt, base, 0, hex, l.bytes);
-            t
+    // Does what a line asks for.
+    pub(crate) fn obey(&mut self, rt: &impl Print, line: &Line) {
+        let first = line.first as usize;
+        let last = line.last as usize;
+        match line.command {
+            Command::Nothing => {}
+            Command::Base => {
+                self.base.clear();
+                self.base.extend(rt, line.bytes());
+            }
+            Command::Further => self.base.extend(rt, line.bytes()),
+            Command::Repeat => self.base.repeat(rt, first, last),
+            Command::Chain => chain(rt, &mut self.base, line.last),
+            Command::Budget => self.options.budget = line.last,
+            Command::Length => self.options.bytes = last,
+            // a table of 0 entries is none that the case's line speaks of
+            Command::Entries => self.options.entries = Some(last).filter(|n| *n > 0),
+            Command::Shown => self.options.shown = first..last,
+            Command::Case(call, on) => {
+                if matches!(on, On::Base) {
+                    self.sheet = self.base;
+                }
+                self.sheet.overwrite(rt, first, line.bytes());
+                case(rt, call, &mut self.sheet, mem::take(&mut self.options));
+            }
         }
-        b' ' => {
-            t.base = paste(rt, base, n, hex, l.bytes);
-            t
-        }
-        b'*' => {
-            t.base = repeat(rt, base, n, l.first as usize, l.last as usize);
-            t
-        }
-        b'>' => {
-            t.base = chain(rt, base, n, l.last);
-            t
-        }
-        _ => t,
-    }
-}
-
-// The line of a case, on a sheet of `n` bytes into which the line's bytes are put.
-fn run_case(
-    rt: &impl Print,
-    s: State,
-    l: Line,
-    hex: &[u8; ROOM],
-    sheet: &mut [u8; MOST],
-    n: usize,
-) -> State {
-    let mut t = s;
-    let o = s.options;
-    let at = l.first as usize;
-    if n < at {
-        slip(rt);
-    }
-    let end = paste(rt, sheet, at, hex, l.bytes);
-    let m = if n < end { end } else { n };
-    case(rt, l.command, sheet, m, o);
-    let o = plain();
-    t.sheet = m;
-    t.options = o;
-    t
-}
-
-// Does what a line asks for.
-pub(crate) fn obey(
-    rt: &impl Print,
-    s: State,
-    l: Line,
-    hex: &[u8; ROOM],
-    base: &mut [u8; MOST],
-    sheet: &mut [u8; MOST],
-) -> State {
-    let mut t = s;
-    let c = l.command;
-    match c {
-        b'?' | b'!' => {
-            *sheet = *base;
-            run_case(rt, s, l, hex, sheet, s.base)
-        }
-        b'.' | b'+' => run_case(rt, s, l, hex, sheet, s.sheet),
-        b'$' | b'^' | b'%' | b'&' => {
-            let o = s.options;
-            let o = option(o, c, l.first, l.last);
-            t.options = o;
-            t
-        }
-        _ => build(rt, s, l, hex, base),
     }
 }

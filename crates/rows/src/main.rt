@@ -31,7 +31,7 @@
 #![tactic(auto)]
 
 mod words; // words.rt: words and numbers on standard output
-mod bytes; // bytes.rt: bytes in a buffer
+mod bytes; // bytes.rt: a sheet in a buffer
 mod chain; // chain.rt: the junctions of the chain of S11.13
 mod table; // table.rt: the index table before a call and after it
 mod answers; // answers.rt: what `check` and `solve` answer
@@ -41,9 +41,9 @@ mod commands; // commands.rt: what a line asks for
 
 ghost use Rattle.std.specs.Counts.{IsPrefixLen};
 
-use commands::{obey, start};
+use commands::State;
 use std::io::Read;
-use text::{ROOM, ended, fresh, read};
+use text::Line;
 use words::slip;
 
 // A byte more than a sheet may have.
@@ -57,35 +57,29 @@ const LONGEST_TEXT: usize = 65536;
 
 // Runs the cases of a text.
 fn run(rt: &impl Print, text: &[u8]) {
-    let mut base = [0u8; MOST];
-    let mut sheet = [0u8; MOST];
-    let mut hex = [0u8; ROOM];
-    let mut state = start();
-    let mut line = fresh();
-    let mut i = 0;
-    while i < text.len() {
-        let b = text[i];
-        i += 1;
+    let mut state = State::new();
+    let mut line = Line::new();
+    for &b in text {
         if b == b'\n' {
-            ended(rt, line);
-            state = obey(rt, state, line, &hex, &mut base, &mut sheet);
-            line = fresh();
+            line.end(rt);
+            state.obey(rt, &line);
+            line = Line::new();
         } else {
-            line = read(rt, line, b, &mut hex);
+            line.read(rt, b);
         }
     }
 }
 
-// Reads until the buffer is full, the input ends or a read fails, and answers how many bytes it has of the input.
+// Reads until the buffer is full, the input ends or a read fails, and answers how many bytes it has of the input. The standard library has
+// nothing that fills a buffer without a heap and says how far.
 fn read_full(from: &mut impl Read, buf: &mut [u8]) -> usize
     ensures { IsPrefixLen result buf.new }
 {
     let mut done = 0;
     while done < buf.len() {
         match from.read(&mut buf[done..]) {
-            Ok(0) => return done,
+            Ok(0) | Err(_) => break,
             Ok(n) => done += n,
-            Err(_) => return done,
         }
     }
     done

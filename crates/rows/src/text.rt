@@ -1,164 +1,184 @@
 // A line of the text, read a byte at a time.
-use super::words::{letter, slip};
+ghost use Rattle.rows.specs.declared.text.TheConstants.{ROOM};
+ghost use Rattle.std.specs.Prelude.{◌<◌, ◌≤◌, IfSome};
+
+use super::words::{slip, word};
 
 // The most bytes that stand in a line.
-pub(crate) const ROOM: usize = 64;
+const ROOM: usize = 64;
 
-// What the next byte of a line belongs to: a command, a label, a number in decimal, bytes in hexadecimal, or nothing.
-const COMMAND: u8 = 0;
+// From this number on no digit more is taken, though behind it itself some would fit; below it every one fits 64 bits.
+const FULL: u64 = u64::MAX / 10;
 
-const LABEL: u8 = 1;
+// The function that a case calls.
+#[derive(Clone, Copy)]
+pub(crate) enum Call {
+    Check,
+    Solve,
+}
 
-const NUMBER: u8 = 2;
+// What a case is run on: a copy of the base, or the sheet as the last case left it.
+#[derive(Clone, Copy)]
+pub(crate) enum On {
+    Base,
+    Last,
+}
 
-const BYTES: u8 = 3;
+// What a line asks for, which its first byte says.
+#[derive(Clone, Copy)]
+pub(crate) enum Command {
+    Nothing,
+    Base,
+    Further,
+    Repeat,
+    Chain,
+    Budget,
+    Length,
+    Entries,
+    Shown,
+    Case(Call, On),
+}
 
-const COMMENT: u8 = 4;
-
-// No digit.
-const NONE: u8 = 16;
+// What the next byte of a line belongs to: its command, its label, a number in decimal, bytes in hexadecimal, or nothing.
+#[derive(Clone, Copy)]
+enum Part {
+    Command,
+    Label,
+    Number,
+    Bytes,
+    Comment,
+}
 
 // A line as far as it is read: its command, what the next byte belongs to, the number before the last space and the one after it, a
-// hexadecimal digit that waits for its second, and the number of its bytes.
+// hexadecimal digit that waits for its second, and its bytes.
 #[derive(Clone, Copy)]
 pub(crate) struct Line {
-    pub(crate) command: u8,
-    part: u8,
+    pub(crate) command: Command,
+    part: Part,
     pub(crate) first: u64,
     pub(crate) last: u64,
-    half: u8,
-    pub(crate) bytes: usize,
+    half: Option<u8>,
+    buffer: [u8; ROOM],
+    count: usize,
+    ghost in_room: { count ≤ ROOM },
 }
 
-// A line of this command. With 0 it has not begun.
-fn begun(command: u8, part: u8) -> Line {
-    Line {
-        command,
-        part,
-        first: 0,
-        last: 0,
-        half: NONE,
-        bytes: 0,
+// The value of a hexadecimal digit.
+fn digit(b: u8) -> Option<u8>
+    ensures { IfSome result (λ d. d < 16) }
+{
+    match b {
+        b'0'..=b'9' => Some(b - b'0'),
+        b'A'..=b'F' => Some(b - b'A' + 10),
+        _ => None,
     }
 }
 
-// A line that has not begun.
-pub(crate) fn fresh() -> Line {
-    begun(0, COMMAND)
+// A number with one digit more, where it takes one.
+fn longer(x: u64, b: u8) -> Option<u64> {
+    if b.is_ascii_digit() && x < FULL {
+        Some(x * 10 + u64::from(b - b'0'))
+    } else {
+        None
+    }
 }
 
-// The first byte of a line.
-fn begin(rt: &impl Print, b: u8) -> Line {
-    match b {
-        b'#' => begun(b, COMMENT),
-        b'=' | b' ' => begun(b, BYTES),
-        b'*' | b'>' | b'$' | b'^' | b'%' | b'&' => begun(b, NUMBER),
-        b'?' | b'!' | b'.' | b'+' => begun(b, LABEL),
-        _ => {
+impl Line {
+    // A line that has not begun.
+    pub(crate) fn new() -> Line {
+        Line {
+            command: Command::Nothing,
+            part: Part::Command,
+            first: 0,
+            last: 0,
+            half: None,
+            buffer: [0; ROOM],
+            count: 0,
+        }
+    }
+
+    // The bytes that stand in the line.
+    pub(crate) fn bytes(&self) -> &[u8] {
+        &self.buffer[..self.count]
+    }
+
+    // The first byte of a line. No other begins one, which is a slip.
+    fn begin(&mut self, rt: &impl Print, b: u8) {
+        let (command, part) = match b {
+            b'#' => (Command::Nothing, Part::Comment),
+            b'=' => (Command::Base, Part::Bytes),
+            b' ' => (Command::Further, Part::Bytes),
+            b'*' => (Command::Repeat, Part::Number),
+            b'>' => (Command::Chain, Part::Number),
+            b'$' => (Command::Budget, Part::Number),
+            b'^' => (Command::Length, Part::Number),
+            b'%' => (Command::Entries, Part::Number),
+            b'&' => (Command::Shown, Part::Number),
+            b'?' => (Command::Case(Call::Check, On::Base), Part::Label),
+            b'!' => (Command::Case(Call::Solve, On::Base), Part::Label),
+            b'.' => (Command::Case(Call::Check, On::Last), Part::Label),
+            b'+' => (Command::Case(Call::Solve, On::Last), Part::Label),
+            _ => {
+                slip(rt);
+                (Command::Nothing, Part::Comment)
+            }
+        };
+        self.command = command;
+        self.part = part;
+    }
+
+    // A digit of a number, or the space behind it, after which a case's line has bytes and any other another number.
+    fn number(&mut self, rt: &impl Print, b: u8) {
+        if b == b' ' {
+            self.first = self.last;
+            self.last = 0;
+            if matches!(self.command, Command::Case(..)) {
+                self.part = Part::Bytes;
+            }
+        } else if let Some(x) = longer(self.last, b) {
+            self.last = x;
+        } else {
             slip(rt);
-            begun(b, COMMENT)
         }
     }
-}
 
-// A byte of a label, or the space behind it.
-fn label(rt: &impl Print, l: Line, b: u8) -> Line {
-    let mut m = l;
-    if b == b' ' {
-        m.part = NUMBER;
-        return m;
-    }
-    letter(rt, b);
-    m
-}
-
-// The value of a digit, or `NONE`.
-fn digit(b: u8) -> u8 {
-    match b {
-        b'0'..=b'9' => b - b'0',
-        b'A'..=b'F' => b - b'A' + 10,
-        _ => NONE,
-    }
-}
-
-// A number with one digit more.
-fn longer(rt: &impl Print, x: u64, b: u8) -> u64 {
-    let d = digit(b);
-    if d < 10 {
-        if x < 1844674407370955161 {
-            return x * 10 + d as u64;
+    // A hexadecimal digit, or a space between two bytes. Any other byte is a slip, and so is a byte more than a line has room for.
+    fn hexadecimal(&mut self, rt: &impl Print, b: u8) {
+        if b == b' ' {
+            return;
+        }
+        let low = digit(b);
+        if low.is_none() {
+            slip(rt);
+        }
+        let Some(high) = self.half.take() else {
+            self.half = low;
+            return;
+        };
+        if self.count < ROOM {
+            self.buffer[self.count] = high << 4 | low.unwrap_or(0);
+            self.count += 1;
+        } else {
+            slip(rt);
         }
     }
-    slip(rt);
-    x
-}
 
-// A digit of a number, or the space behind it, after which a case's line has bytes and any other another number.
-fn count(rt: &impl Print, l: Line, b: u8) -> Line {
-    let mut m = l;
-    let c = l.command;
-    if b != b' ' {
-        m.last = longer(rt, l.last, b);
-        return m;
-    }
-    m.first = l.last;
-    m.last = 0;
-    match c {
-        b'?' | b'!' | b'.' | b'+' => {
-            m.part = BYTES;
-            m
+    // A byte of a line.
+    pub(crate) fn read(&mut self, rt: &impl Print, b: u8) {
+        match self.part {
+            Part::Command => self.begin(rt, b),
+            Part::Label if b == b' ' => self.part = Part::Number,
+            Part::Label => word(rt, &[b]),
+            Part::Number => self.number(rt, b),
+            Part::Bytes => self.hexadecimal(rt, b),
+            Part::Comment => {}
         }
-        _ => m,
     }
-}
 
-// The value of a hexadecimal digit. Any other byte is a slip.
-fn hexadecimal(rt: &impl Print, b: u8) -> u8 {
-    let d = digit(b);
-    if d == NONE {
-        slip(rt);
-    }
-    d
-}
-
-// A hexadecimal digit, or a space between two bytes.
-fn half(rt: &impl Print, l: Line, b: u8, hex: &mut [u8; ROOM]) -> Line {
-    let mut m = l;
-    let waiting = l.half;
-    let n = l.bytes;
-    if b == b' ' {
-        return m;
-    }
-    let d = hexadecimal(rt, b);
-    if waiting == NONE {
-        m.half = d;
-        return m;
-    }
-    m.half = NONE;
-    if n < ROOM {
-        hex[n] = waiting % 16 * 16 + d % 16;
-        m.bytes = n + 1;
-        return m;
-    }
-    slip(rt);
-    m
-}
-
-// A byte of a line; the bytes that stand in the line are gathered in `hex`.
-pub(crate) fn read(rt: &impl Print, l: Line, b: u8, hex: &mut [u8; ROOM]) -> Line {
-    let part = l.part;
-    match part {
-        COMMAND => begin(rt, b),
-        LABEL => label(rt, l, b),
-        NUMBER => count(rt, l, b),
-        BYTES => half(rt, l, b, hex),
-        _ => l,
-    }
-}
-
-// A digit that waits at the end of a line is a slip.
-pub(crate) fn ended(rt: &impl Print, l: Line) {
-    if l.half != NONE {
-        slip(rt);
+    // The end of a line. A digit that waits there is a slip.
+    pub(crate) fn end(&self, rt: &impl Print) {
+        if self.half.is_some() {
+            slip(rt);
+        }
     }
 }

@@ -1,19 +1,8 @@
 // Words and numbers on standard output. Where a write fails, what it was to write is missing there, and nothing more is done about it.
 
-// A number of 32 bits as one of 64.
-pub(crate) fn long(x: u32) -> u64 {
-    x as u64
-}
-
 // A word as it stands.
 pub(crate) fn word(rt: &impl Print, text: &[u8]) {
     let _ = rt.write_all(text);
-}
-
-// A byte of a label.
-pub(crate) fn letter(rt: &impl Print, b: u8) {
-    let text = [b];
-    word(rt, &text);
 }
 
 // A space, and a number in decimal.

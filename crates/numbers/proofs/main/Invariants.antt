@@ -2,8 +2,8 @@
 use Rattle.std.proofs.Common.{◌-◌, ◌<◌}
 use Rattle.numbers.proofs.main.Given as goal
 
-abbrev pub invariant-loop-power : goal.invariant-loop-power
-invariant-loop-power l = 0 < l.power
+abbrev pub invariant-loop-next : goal.invariant-loop-next
+invariant-loop-next l = 0 < l.power
 
-abbrev pub decreases-loop-power : goal.decreases-loop-power
-decreases-loop-power l = 18446744073709551615 - l.power
+abbrev pub decreases-loop-next : goal.decreases-loop-next
+decreases-loop-next l = 18446744073709551615 - l.power
