@@ -68,7 +68,7 @@ fn solve_with<const N: usize>(sheet: &mut [u8], table: &mut [u8], budget: u64) -
     a
 }
 
-// The number of an outcome.
+// The number of an outcome, as C has it.
 fn outcome_number(o: Outcome) -> u32
     ensures { result ≡ number o }
 {

@@ -63,7 +63,7 @@ pub(crate) struct Line {
     ghost in_room: { count ≤ ROOM },
 }
 
-// The value of a hexadecimal digit.
+// The value of a hexadecimal digit. The standard library has none for a byte.
 fn digit(b: u8) -> Option<u8>
     ensures { IfSome result (λ d. d < 16) }
 {

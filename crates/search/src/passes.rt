@@ -16,7 +16,8 @@ pub struct Passes {
     pub raises: u64,
 }
 
-// The work of one call. A pass that fails has raised something, so what is left of the budget falls.
+// The work of one call. A pass that fails has raised something, so what is left of the budget falls. The loop has no index and no end but
+// the pass that does not fail.
 pub fn work(sheet: &mut [u8], table: &[u32], start: usize, budget: u64) -> Passes
     requires within { Within sheet.old table.now start }
     requires workable { Workable sheet.old }

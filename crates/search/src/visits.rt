@@ -136,7 +136,7 @@ fn try_action(
 {
     let end = Action::new(sheet, a).end();
     let mut spent = raises;
-    // No `for` over the offsets by two: it leaves from the end of a turn too, and its proof goes through the turn once more there.
+    // No `for` over the offsets by two: its proof does not close at the end, which it leaves from the end of a turn too.
     let mut o: usize = a + format::SUCCESSORS_IN;
     while o < end {
         let t = usize::from(get16(sheet, o));
