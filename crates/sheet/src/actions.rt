@@ -5,7 +5,7 @@ ghost use Rattle.model.specs.Problem.{node_at};
 ghost use Rattle.model.specs.Format.{action_tag, successors_in, successor_bytes, actions_of, action_offset};
 ghost use Rattle.model.specs.Limits.{max_successors, max_actions};
 ghost use Rattle.model.specs.Read.{problem_of, action_fits};
-ghost use Rattle.sheet.specs.Sheet.{action_of, walked, IsDecision, Steps};
+ghost use Rattle.sheet.specs.Sheet.{action_of, walked, Below, IsDecision, Steps};
 
 use super::fields::Indexed;
 use super::numbers::{byte_at, get16, get32};
@@ -27,15 +27,13 @@ pub struct Action<'a> {
 }
 
 impl<'a> Model for Action<'a> {
-    ghost use Rattle.std.specs.Prelude.{◌≡◌, true, drop};
-    ghost use Rattle.model.specs.Read.{action_fits};
-    ghost use Rattle.sheet.specs.Sheet.{Place};
+    ghost use Rattle.sheet.specs.Sheet.{Place, Stands};
 
     ghost Value = { Place };
 
     ghost view = { λ a. record { bytes = a.bytes.now; at = a.at } };
 
-    ghost invariant = { λ a. action_fits (drop a.at a.bytes.now) ≡ true };
+    ghost invariant = { λ a. Stands a.bytes.now a.at };
 }
 
 impl<'a> Action<'a> {
@@ -76,10 +74,10 @@ impl<'a> Action<'a> {
         usize::from(get16(self.bytes, self.at + format::SUCCESSORS_IN))
     }
 
-    // Its successors, of which there are 1 to 16.
+    // Its successors, of which there are 1 to 16, each a number of two bytes.
     pub fn successors(&self) -> Successors<'a>
         ensures { (result ≡ (action_of self.now).successors) × (1 ≤ length (action_of self.now).successors) ×
-            (length (action_of self.now).successors ≤ max_successors) }
+            (length (action_of self.now).successors ≤ max_successors) × Below 65536 (action_of self.now).successors }
     {
         Successors {
             pairs: &self.bytes[self.at + format::SUCCESSORS_IN..self.end()],

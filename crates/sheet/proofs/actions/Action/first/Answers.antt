@@ -6,17 +6,17 @@ use Rattle.sheet.proofs.actions.Action.first.Goals as goal
 
 pub overflow_add-self-inside : goal.overflow_add-self-inside
 overflow_add-self-inside c =
-    omega (arith, place-content c.self.view_is c.self.invariant, place-count c.self.view_is c.self.invariant, c.self.told)
+    omega (arith, place-content c.self.view_is c.self.invariant.fits, place-count c.self.view_is c.self.invariant.fits, c.self.told)
 
 pub get16-requires : goal.get16-requires
-get16-requires c = omega (arith, place-content c.self.view_is c.self.invariant, place-count c.self.view_is c.self.invariant)
+get16-requires c = omega (arith, place-content c.self.view_is c.self.invariant.fits, place-count c.self.view_is c.self.invariant.fits)
 
 pub returns : goal.returns
 returns c =
     let bs = c.self.inside.bytes.now in
     let o = c.self.inside.at in
     let at : o + 7 + 2 * 0 ≡ o + 7 = omega arith in
-    let first = rw at at (successor-of bs o c.self.invariant 0 (some-successor bs o c.self.invariant)) in (
+    let first = rw at at (successor-of bs o c.self.invariant.fits 0 (some-successor bs o c.self.invariant.fits)) in (
       c.from.ensures ∙ (c.get16.ensures ∙ sym first) ∙ ap (λ (a : Action). get_or a.successors 0 0) (place-says c.self.view_is),
       omega (arith, c.from.ensures),
     )

@@ -5,10 +5,10 @@ use Rattle.sheet.proofs.Laws.{place-at, place-bytes, place-content}
 use Rattle.sheet.proofs.actions.Action.heading.Goals as goal
 
 pub overflow_add-result : goal.overflow_add-result
-overflow_add-result c = omega (arith, place-content c.self.view_is c.self.invariant, c.self.told)
+overflow_add-result c = omega (arith, place-content c.self.view_is c.self.invariant.fits, c.self.told)
 
 pub slice_bounds-result-end : goal.slice_bounds-result-end
-slice_bounds-result-end c = omega (arith, place-content c.self.view_is c.self.invariant)
+slice_bounds-result-end c = omega (arith, place-content c.self.view_is c.self.invariant.fits)
 
 pub returns : goal.returns
 returns c =
