@@ -1,5 +1,5 @@
 -- The table of the powers of ten, and the widths that it gives (S10.10): of every number of 64 bits the count of its digits.
-use Prim.Native.Nat.{ℕ, zero, suc, ◌+◌, ◌/◌, ◌^◌, ◌<◌, ◌≤◌}
+use Prim.Native.Nat.{ℕ, zero, suc, ◌+◌, ◌/◌, ◌^◌, ◌<◌, ◌≤◌, max}
 use mathlib.Core.Path.{◌≡◌, refl, ap, sym, ◌∙◌}
 use mathlib.Core.Bool.{Bool, true, false}
 use mathlib.Core.Logic.{⊎_elim}
@@ -111,30 +111,31 @@ width_is (suc x) n h s = width_some x ∙ at-most-is (suc x) n powers (omega (ar
         let rise = powers-rise n i le in
         rw (powers-fit.entry i (omega (arith, powers-fit.twenty))) (omega (arith, s.high, rise))
 
--- so the width is one more than the count of entries behind the first that are at most x
-module _ (x n : ℕ) (rest : List ℕ) (is : n ≡ up_to x rest) where
-  pub count-few : n ≤ length rest
-  unfolding up_to
-  count-few = rw is (prefix_len-le-length (λ p. leb p x) rest)
-
-  pub width-counts : x < 2 ^ 64 → PowersThatFit (1 ∷ rest) → n + 1 ≡ width_of x
+-- so the width is the count of the entries from the first on that are at most x, or 1 where there is none
+module _ (x n : ℕ) (table : List ℕ) (is : n ≡ up_to x table) where
+  pub width-counts : x < 2 ^ 64 → PowersThatFit table → max n 1 ≡ width_of x
   unfolding up_to
   width-counts h fit =
-      add-one n ∙ sym (width_is x (suc n) (omega (arith, count-few, fit.twenty)) (record { some = omega arith; low = low; high = high }))
+      sym (width_is x (max n 1) (omega (arith, count-few)) (record { some = omega arith; low = low; high = high }))
     where
-      low : (i : ℕ) → 1 ≤ i → i < suc n → 10 ^ i ≤ x
-      low zero one lt = absurd (omega arith)
-      low (suc i) one lt =
-          let passes = leb-true _ _ (prefix_len_passes (λ p. leb p x) rest i 0 (omega (arith, is))) in
-          rw (fit.entry (suc i) (omega (arith, count-few, fit.twenty))) at passes
+      count-few : n ≤ 20
+      count-few = rw (is, ← fit.twenty) (prefix_len-le-length (λ p. leb p x) table)
 
-      stops : n < 19 → x < 10 ^ suc n
+      low : (i : ℕ) → 1 ≤ i → i < max n 1 → 10 ^ i ≤ x
+      low i one lt =
+          let passes = leb-true _ _ (prefix_len_passes (λ p. leb p x) table i 0 (omega (arith, is))) in
+          rw (fit.entry i (omega (arith, count-few))) at passes
+
+      stops : n < 20 → x < 10 ^ n
       stops lt =
-          let stop = leb-false _ _ (prefix_len_stops (λ p. leb p x) rest 0 (omega (arith, is, fit.twenty))) in
-          rw (← is, fit.entry (suc n) (omega arith)) at stop
+          let stop = leb-false _ _ (prefix_len_stops (λ p. leb p x) table 0 (omega (arith, is, fit.twenty))) in
+          rw (← is, fit.entry n lt) at stop
 
-      high : x < 10 ^ suc n
-      high = ⊎_elim (λ e. rw e (omega arith)) stops (eq-or-lt_of_le (omega (arith, count-few, fit.twenty)))
+      below : n < 20 → x < 10 ^ max n 1
+      below lt = let rise = powers-rise n (max n 1) (omega arith) in omega (arith, stops lt, rise)
+
+      high : x < 10 ^ max n 1
+      high = ⊎_elim (λ e. rw e (omega arith)) below (eq-or-lt_of_le count-few)
 
 digits_are : (n x : ℕ) → Spans x n → length (decimal x) ≡ n
 digits_are zero x s = absurd (omega (arith, s.some))

@@ -35,10 +35,10 @@ fn entries(table: &[u64], x: u64) -> usize
     table.iter().take_while(|&&entry| entry <= x).count()
 }
 
-// A number's width (S10.10): one more than how many of the entries behind the first are at most the number. Entries ascend, so the first
-// above the number ends the count.
+// A number's width (S10.10): how many entries are at most the number, and 1 for 0. Entries ascend, so the first above the number ends the
+// count.
 pub(crate) fn width(x: u64) -> usize
     ensures { result ≡ width_of x }
 {
-    entries(&POWERS[1..], x) + 1
+    entries(&POWERS, x).max(1)
 }
