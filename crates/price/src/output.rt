@@ -1,5 +1,6 @@
 // Writing: the listing on standard output, and what is said on standard error.
 use crate::words::words;
+use listing::write_number;
 use model::Outcome;
 use std::io::{Cursor, Write};
 use std::{io, str};
@@ -41,10 +42,18 @@ pub(crate) fn write(output: &impl Print, errors: &impl Print, text: &[u8]) {
     fail_unless(errors, output.write_all(text));
 }
 
+// Writes a number as a listing has it (S10.4). No number has more digits than the buffer has bytes (S10.10).
+fn write_decimal(to: &impl Print, x: u64) -> io::Result<()> {
+    let mut text = [0u8; 20];
+    let n = write_number(&mut text, x);
+    to.write_all(&text[..n])
+}
+
 // Explains a refusal on standard error (S10.5), of a sheet whose first byte is `tag`; no other outcome needs it.
 pub(crate) fn explain(errors: &impl Print, o: Outcome, tag: u8) {
     if let Outcome::Refused(n) = o {
-        let _ = print!(errors; "price: refused {n}");
+        let _ = errors.write_all(b"price: refused ");
+        let _ = write_decimal(errors, u64::from(n));
         let _ = words(errors, n, tag);
     }
 }
