@@ -1,7 +1,7 @@
 // A case: a call of `check` or of `solve` under its options, and its line.
 use super::answers::{asked, worked};
 use super::bytes::Sheet;
-use super::table::{garbage, show, tally};
+use super::table::{show, spoil, tally};
 use super::text::Call;
 use super::words::{number, slip, word};
 use super::{LONGEST, MOST};
@@ -30,7 +30,8 @@ impl Default for Options {
     }
 }
 
-// The call, on as many bytes and with as many entries as the options say. It is a slip where there are fewer.
+// The call, on as many bytes and with as many entries as the options say. It is a slip where there are fewer. The bytes are kept for a call
+// that may change them, and only for that: to copy them takes longer than most checks.
 fn run_call(
     rt: &impl Print,
     call: Call,
@@ -38,7 +39,6 @@ fn run_call(
     table: &mut [u32; LONGEST],
     options: &Options,
 ) {
-    let before = sheet.buffer;
     let n = sheet.len.min(options.bytes);
     let size = options.entries.unwrap_or(MAX_STATES);
     let (Some(bytes), Some(entries)) = (sheet.buffer.get_mut(..n), table.get_mut(..size)) else {
@@ -47,13 +47,18 @@ fn run_call(
     };
     match call {
         Call::Check => asked(rt, bytes, entries),
-        Call::Solve => worked(rt, bytes, entries, options.budget, &before),
+        Call::Solve => {
+            let mut before = [0; MOST];
+            before[..n].copy_from_slice(bytes);
+            worked(rt, bytes, entries, options.budget, &before);
+        }
     }
 }
 
 // A case on a sheet, or on fewer of its bytes: its line behind its label.
 pub(crate) fn case(rt: &impl Print, call: Call, sheet: &mut Sheet, options: Options) {
-    let mut table = garbage();
+    let mut table = [0; LONGEST];
+    spoil(&mut table);
     let entries = options.entries;
     if let Some(size) = entries {
         word(rt, b"-table");

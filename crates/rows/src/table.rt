@@ -1,15 +1,18 @@
 // The index table before a call and after it.
 use super::LONGEST;
 use super::words::{number, word};
-use std::ops::Range;
+use std::ops::{Range, RangeFrom};
 
-// A table of garbage: 7, 8, 9 and so on.
-pub(crate) fn garbage() -> [u32; LONGEST] {
-    let mut table = [0; LONGEST];
-    for (entry, x) in table.iter_mut().zip(7..) {
+// Garbage for the entries of a table: 7, 8, 9 and so on.
+fn garbage() -> RangeFrom<u32> {
+    7..
+}
+
+// Fills a table with garbage.
+pub(crate) fn spoil(table: &mut [u32; LONGEST]) {
+    for (entry, x) in table.iter_mut().zip(garbage()) {
         *entry = x;
     }
-    table
 }
 
 // Prints the table's entries of a range, as far as there are any.
@@ -24,8 +27,8 @@ pub(crate) fn tally(rt: &impl Print, table: &[u32; LONGEST], size: usize) {
     if let Some(entries) = table.get(..size) {
         let kept = entries
             .iter()
-            .zip(&garbage())
-            .filter(|(e, g)| e == g)
+            .zip(garbage())
+            .filter(|(e, g)| **e == *g)
             .count();
         let zeros = entries.iter().filter(|e| **e == 0).count();
         word(rt, b" kept");
