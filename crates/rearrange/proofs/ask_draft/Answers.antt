@@ -30,12 +30,6 @@ count_all-requires-clause-inside c = inside (goal.at.count_all-requires-clause-i
 pub place_all-placed-requires-clause-inside : goal.place_all-placed-requires-clause-inside
 place_all-placed-requires-clause-inside c = inside (goal.at.place_all-placed-requires-clause-inside c).In_ok-ask_findings
 
-pub returns-then-placed-n-clause-value : goal.returns-then-placed-n-clause-value
-unfolding findings_by
-returns-then-placed-n-clause-value c =
-    let eleven = placed-some _ _ _ c.states-n.ensures.number c.place_all-placed.ensures.value c.if-placed-n.true in
-    rw c.into.ensures (turn-11 _ _ _ _ c.in_ok-ask_findings.ensures eleven)
-
 pub ask_marks-requires : goal.ask_marks-requires
 ask_marks-requires c =
     let at = (goal.at.ask_marks-requires c).In_ok-ask_findings in (inside at, five at)
@@ -45,6 +39,12 @@ unfolding findings_by
 returns-clause-value c =
     let eleven = placed-all _ _ _ c.states-n.ensures.number c.place_all-placed.ensures.value c.if-placed-n.false in
     c.ask_marks.ensures ∙ turn-marks _ _ _ _ c.in_ok-ask_findings.ensures eleven
+
+pub returns-then-placed-n-clause-value : goal.returns-then-placed-n-clause-value
+unfolding findings_by
+returns-then-placed-n-clause-value c =
+    let eleven = placed-some _ _ _ c.states-n.ensures.number c.place_all-placed.ensures.value c.if-placed-n.true in
+    rw c.into.ensures (turn-11 _ _ _ _ c.in_ok-ask_findings.ensures eleven)
 
 pub returns-clause-placed : goal.returns-clause-placed
 returns-clause-placed c =
