@@ -34,8 +34,14 @@ impl Sheet {
         }
     }
 
-    // Writes bytes behind the others.
+    // Writes bytes behind the others: at once where there is room for all of them.
     pub(crate) fn extend(&mut self, rt: &impl Print, bytes: &[u8]) {
+        let end = self.len.saturating_add(bytes.len());
+        if let Some(room) = self.buffer.get_mut(self.len..end) {
+            room.copy_from_slice(bytes);
+            self.len = end;
+            return;
+        }
         for &b in bytes {
             self.push(rt, b);
         }

@@ -1,17 +1,17 @@
 // The index table before a call and after it.
 use super::LONGEST;
 use super::words::{number, word};
-use std::ops::{Range, RangeFrom};
+use std::ops::Range;
 
-// Garbage for the entries of a table: 7, 8, 9 and so on.
-fn garbage() -> RangeFrom<u32> {
-    7..
+// The garbage of an entry: 7, 8, 9 and so on.
+fn garbage(i: usize) -> u32 {
+    (i % LONGEST) as u32 + 7
 }
 
 // Fills a table with garbage.
 pub(crate) fn spoil(table: &mut [u32; LONGEST]) {
-    for (entry, x) in table.iter_mut().zip(garbage()) {
-        *entry = x;
+    for (i, entry) in table.iter_mut().enumerate() {
+        *entry = garbage(i);
     }
 }
 
@@ -25,15 +25,19 @@ pub(crate) fn show(rt: &impl Print, table: &[u32; LONGEST], shown: Range<usize>)
 // Prints how many of the first `size` entries are the garbage that stood there, and how many are 0, unless the table has fewer.
 pub(crate) fn tally(rt: &impl Print, table: &[u32; LONGEST], size: usize) {
     if let Some(entries) = table.get(..size) {
-        let kept = entries
-            .iter()
-            .zip(garbage())
-            .filter(|(e, g)| **e == *g)
-            .count();
-        let zeros = entries.iter().filter(|e| **e == 0).count();
+        let mut kept: u64 = 0;
+        let mut zeros: u64 = 0;
+        for (i, entry) in entries.iter().enumerate() {
+            if *entry == garbage(i) {
+                kept += 1;
+            }
+            if *entry == 0 {
+                zeros += 1;
+            }
+        }
         word(rt, b" kept");
-        number(rt, kept as u64);
+        number(rt, kept);
         word(rt, b" zeros");
-        number(rt, zeros as u64);
+        number(rt, zeros);
     }
 }
