@@ -34,6 +34,7 @@ pub ask_marks-requires : goal.ask_marks-requires
 ask_marks-requires c =
     let at = (goal.at.ask_marks-requires c).In_ok-ask_findings in (inside at, five at)
 
+-- before the answer where a circle is refused, which a circle let through leaves true: this is what it breaks
 pub returns-clause-value : goal.returns-clause-value
 unfolding findings_by
 returns-clause-value c =
